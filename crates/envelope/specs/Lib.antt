@@ -1,0 +1,5 @@
+pub mod Frame
+pub mod Refusal
+pub mod Read
+pub mod Promises
+pub mod Keys

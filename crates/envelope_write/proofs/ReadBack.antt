@@ -1,0 +1,230 @@
+-- The bytes of an envelope that the writer takes are accepted, and the readers give the envelope back.
+use Prim.Native.Nat.{ℕ, zero, suc, _+_, _*_, _/_, _%_, _-_, _<_}
+use mathlib.Core.Path.{_≡_, refl, sym, ap, _∙_}
+use mathlib.Core.List.{List, [], _∷_, _++_, append-assoc}
+use mathlib.Core.Bool.{Bool, true, false, cond}
+use native.Mathlib.Omega.{arith}
+use native.Mathlib.Decide.{decLt}
+use native.Mathlib.Nat.{add-zero}
+use lib.Dec.{eqb}
+use lib.ListN.{length, getD, take, drop, length-append, List·getD-append}
+use lib.Seq.{take-at, drop-at, getD-at, getD-append-add}
+use borrow.Author.Tests.{le-ltb, eq-eqb, ne-eqb}
+use Rattle.lists.specs.Bytes.{wordAt}
+use Rattle.lists.specs.Places.{repeats, row, joined}
+use Rattle.lists.proofs.Places.{Agree, row-agree}
+use Rattle.address.specs.declared.Address.{Address}
+use Rattle.address.specs.Address.{inRange, sameAddress, packOf, unpackAt, zeroAddress}
+use Rattle.address.proofs.Laws.{undo}
+use Rattle.envelope.specs.declared.Fixed.{Fixed}
+use Rattle.envelope.specs.declared.Read.the-variants.{Envelope}
+use Rattle.envelope.specs.Frame.{partAt, protAt, contentsStart, countOf, lengthOf, sizeOf, fieldsOf, destinationAt, checkOf}
+use Rattle.envelope.specs.Refusal.{outOfRange, frameRefusal, valueRefusal, valuesRefusal, refusalOf}
+use Rattle.envelope.specs.Read.{readOf, contentsOf, destinationsOf}
+use Rattle.envelope.proofs.Laws.{values-agree, Valued, valued, outside-false, Ranged, ranged, version-small, read-whole, contents-taken, destinations-taken}
+use Rattle.envelope_write.specs.Write.{headOf, midOf, bodyOf, bytesOf, carried}
+use Rattle.envelope_write.proofs.Laws.{length-head, length-mid, length-packs, length-body, length-bytes}
+
+-- the bytes of the address at a place
+packs-at : (d : ℕ → Address) (n i k : ℕ) → i < n → k < 3 → (rest : List ℕ) → getD (joined packOf d n ++ rest) (3 * i + k) 0 ≡ getD (packOf (d i)) k 0
+unfolding joined
+packs-at d zero i k h hk rest = absurd (omega arith)
+packs-at d (suc n) i k h hk rest = go (decLt i n) (λ l. packs-at d n i k l hk (packOf (d n) ++ rest))
+  where
+    go : Dec (i < n) → (i < n → getD (joined packOf d n ++ (packOf (d n) ++ rest)) (3 * i + k) 0 ≡ getD (packOf (d i)) k 0)
+        → getD (joined packOf d n ++ packOf (d n) ++ rest) (3 * i + k) 0 ≡ getD (packOf (d i)) k 0
+    go (yes l) ih = rw append-assoc (ih l)
+    go (no l) ih =
+        let q : i ≡ n = omega arith in
+        let s : 3 * i + k ≡ length (joined packOf d n) + k = omega (arith, length-packs d n) in
+        rw (append-assoc, s, getD-append-add, List·getD-append (packOf (d n)) rest 0 k hk)
+        (ap (λ (j : ℕ). getD (packOf (d j)) k 0) (sym q))
+
+-- an address is read from its three bytes, wherever they stand
+unpack-back : (a : Address) (l : List ℕ) (at : ℕ) → inRange a ≡ true
+    → getD l at 0 ≡ getD (packOf a) 0 0 → getD l (at + 1) 0 ≡ getD (packOf a) 1 0 → getD l (at + 2) 0 ≡ getD (packOf a) 2 0 → unpackAt l at ≡ a
+unpack-back a l at h p0 p1 p2 = rw (p0, p1, p2) (undo .read a h [])
+
+-- the word of <ack&seq>
+ack-back : (s : ℕ) (a : Bool) → eqb ((s * 2 + cond a 1 0) % 2) 1 ≡ a
+ack-back s true = eq-eqb ((s * 2 + 1) % 2) 1 (omega arith)
+ack-back s false = ne-eqb ((s * 2 + 0) % 2) 1 (omega arith)
+
+seq-back : (s : ℕ) (a : Bool) → (s * 2 + cond a 1 0) / 2 ≡ s
+seq-back s true = omega arith
+seq-back s false = omega arith
+
+module _ (e : Fixed) (d : ℕ → Address) (l : List ℕ) (z : valuesRefusal e (length l) d ≡ 0) where
+  v : Valued e (length l) (outOfRange e d) (repeats sameAddress d (e .count))
+  v = valued _ _ _ _ z
+
+  r : Ranged e d
+  r = ranged e d (v .inside)
+
+  f : List ℕ
+  f = bytesOf e d l
+
+  -- what follows the head, what follows the destinations, what follows the fixed fields
+  after-contents : List ℕ
+  after-contents = l ++ (checkOf (bodyOf e d l) ∷ [])
+
+  after-packs : List ℕ
+  after-packs = midOf e ++ after-contents
+
+  after-head : List ℕ
+  after-head = joined packOf d (e .count) ++ after-packs
+
+  f-head : f ≡ headOf e (length l) ++ after-head
+  unfolding f after-head after-packs after-contents bytesOf bodyOf
+  f-head = simp append-assoc
+
+  word-3 : wordAt f 3 ≡ length l * 64 + e .count
+  unfolding headOf
+  word-3 = rw f-head (omega arith)
+
+  count-back : countOf f ≡ e .count
+  unfolding countOf
+  count-back = rw word-3 (omega (arith, outside-false 63 _ (v .counted)))
+
+  length-back : lengthOf f ≡ length l
+  unfolding lengthOf
+  length-back = rw word-3 (omega (arith, outside-false 63 _ (v .counted)))
+
+  size-back : sizeOf f ≡ length f
+  unfolding f
+  size-back = rw (count-back, length-back, length-bytes e d l)
+
+  -- the source and the destinations
+  source-back : unpackAt f 0 ≡ e .source
+  unfolding headOf
+  source-back = rw f-head (undo .read (e .source) (r .source-in) [])
+
+  part-back : drop partAt f ≡ after-head
+  unfolding headOf
+  part-back = rw f-head
+
+  destination-back : Agree (destinationAt (drop partAt f)) d (e .count)
+  unfolding destinationAt after-head
+  destination-back i h =
+      let p : List ℕ = joined packOf d (e .count) ++ after-packs in
+      rw part-back
+      (unpack-back (d i) p (3 * i) (r .destination-in i h)
+      (ap (λ (k : ℕ). getD p k 0) (sym (add-zero (3 * i))) ∙ packs-at d (e .count) i 0 h (omega arith) after-packs)
+      (packs-at d (e .count) i 1 h (omega arith) after-packs)
+      (packs-at d (e .count) i 2 h (omega arith) after-packs))
+
+  -- the fields after them
+  front : List ℕ
+  front = headOf e (length l) ++ joined packOf d (e .count)
+
+  length-front : length front ≡ 5 + 3 * e .count
+  unfolding front
+  length-front = simp (length-append, length-head, length-packs)
+
+  f-front : f ≡ front ++ after-packs
+  unfolding f front after-packs after-contents bytesOf bodyOf
+  f-front = simp append-assoc
+
+  mid-at : (k : ℕ) → k < 4 → getD f (protAt f + k) 0 ≡ getD (midOf e) k 0
+  unfolding after-packs
+  mid-at k h =
+      let s : protAt f + k ≡ length front + k = omega (arith, count-back, length-front) in
+      rw (s, f-front, getD-append-add) (List·getD-append (midOf e) after-contents 0 k (omega (arith, length-mid e)))
+
+  prot-back : getD f (protAt f) 0 ≡ e .priority * 16 + e .version
+  unfolding midOf
+  prot-back = ap (λ (k : ℕ). getD f k 0) (sym (add-zero (protAt f))) ∙ mid-at 0 (omega arith)
+
+  seq-word : wordAt f (protAt f + 1) ≡ e .seq .0 * 2 + cond (e .ack) 1 0
+  unfolding midOf
+  seq-word =
+      let s : protAt f + 1 + 1 ≡ protAt f + 2 = omega arith in
+      rw (s, mid-at 1 (omega arith), mid-at 2 (omega arith)) (omega arith)
+
+  fields-back : fieldsOf f ≡ carried e (length l)
+  unfolding fieldsOf midOf
+  fields-back =
+      let p : getD f (protAt f) 0 / 16 ≡ e .priority = omega (arith, prot-back, version-small _ _ (v .versioned)) in
+      let q : getD f (protAt f) 0 % 16 ≡ e .version = omega (arith, prot-back, version-small _ _ (v .versioned)) in
+      let a : eqb (wordAt f (protAt f + 1) % 2) 1 ≡ e .ack = rw seq-word (ack-back (e .seq .0) (e .ack)) in
+      let s : wordAt f (protAt f + 1) / 2 ≡ e .seq .0 = rw seq-word (seq-back (e .seq .0) (e .ack)) in
+      let k : getD f (protAt f + 3) 0 ≡ e .kind = mid-at 3 (omega arith) in
+      λ i. record {
+        source = source-back i;
+        count = count-back i;
+        length = length-back i;
+        priority = p i;
+        version = q i;
+        ack = a i;
+        seq = record { 0 = s i };
+        kind = k i;
+      }
+
+  -- the contents
+  before : List ℕ
+  before = front ++ midOf e
+
+  length-before : length before ≡ 9 + 3 * e .count
+  unfolding before
+  length-before = simp length-append (omega (arith, length-front, length-mid e))
+
+  f-before : f ≡ before ++ after-contents
+  unfolding before after-packs
+  f-before = f-front ∙ sym (append-assoc front (midOf e) after-contents)
+
+  contents-back : take (lengthOf f) (drop (contentsStart f) f) ≡ l
+  unfolding after-contents
+  contents-back =
+      rw (length-back, count-back, f-before, drop-at before after-contents (9 + 3 * e .count) length-before)
+      (take-at l (checkOf (bodyOf e d l) ∷ []) (length l) refl)
+
+  -- the check character
+  body-length : length f - 1 ≡ 9 + 3 * e .count + length l
+  unfolding f
+  body-length = omega (arith, length-bytes e d l)
+
+  body-back : take (9 + 3 * e .count + length l) f ≡ bodyOf e d l
+  unfolding f bytesOf
+  body-back = take-at (bodyOf e d l) (checkOf (bodyOf e d l) ∷ []) (9 + 3 * e .count + length l) (length-body e d l)
+
+  last-back : getD f (9 + 3 * e .count + length l) 0 ≡ checkOf (bodyOf e d l)
+  unfolding f bytesOf
+  last-back = getD-at (bodyOf e d l) (checkOf (bodyOf e d l)) [] 0 (9 + 3 * e .count + length l) (length-body e d l)
+
+  check-back : checkOf (take (length f - 1) f) ≡ getD f (length f - 1) 0
+  check-back = rw (body-length, body-back, last-back)
+
+  -- so nothing is refused
+  frame-back : frameRefusal f ≡ 0
+  unfolding frameRefusal
+  frame-back =
+      simp (
+        le-ltb (length f) 10 (omega (arith, size-back)),
+        le-ltb (length f) (sizeOf f) (omega (arith, size-back)),
+        le-ltb (sizeOf f) (length f) (omega (arith, size-back)),
+        eq-eqb (checkOf (take (length f - 1) f)) (getD f (length f - 1) 0) check-back,
+      )
+
+  values-back : valuesRefusal (carried e (length l)) (length l) d ≡ 0
+  unfolding valueRefusal outOfRange
+  values-back = z
+
+  accepted-back : refusalOf f ≡ 0
+  unfolding refusalOf
+  accepted-back =
+      rw (frame-back, fields-back, length-back, values-agree (carried e (length l)) (length l) (destinationAt (drop partAt f)) d destination-back)
+      values-back
+
+  pub fields-read : readOf (bytesOf e d l) ≡ Envelope (carried e (length l))
+  unfolding f
+  fields-read = sym (read-whole f accepted-back (sym fields-back))
+
+  pub contents-read : contentsOf (bytesOf e d l) ≡ l
+  unfolding f
+  contents-read = contents-taken f accepted-back ∙ contents-back
+
+  pub destinations-read : destinationsOf (bytesOf e d l) ≡ record { count = e .count; places = row 63 zeroAddress d (e .count) }
+  unfolding f
+  destinations-read =
+      destinations-taken f accepted-back
+      ∙ rw (count-back, row-agree 63 zeroAddress (destinationAt (drop partAt f)) d (e .count) destination-back)

@@ -1,0 +1,78 @@
+-- `envelope_write::storing::put_body` meets its contract: four runs of stores, one after the other, are the body.
+use Rattle.lists.specs.Places.{elementAt}
+use Rattle.address.specs.Address.{zeroAddress}
+use Rattle.envelope_write.proofs.Laws.{body-puts}
+use borrow.Author.Needs.{needs}
+use Rattle.envelope_write.proofs.storing.put_body.Statement.{statement}
+use Rattle.envelope_write.proofs.storing.put_body.Tie as tie
+
+cast-count : tie.Need-cast-count
+cast-count c = search needs
+
+mul-prot : tie.Need-mul-prot
+mul-prot c = search needs
+
+add-prot : tie.Need-add-prot
+add-prot c = search needs
+
+head-bytes-requires : tie.Need-head-bytes-requires
+head-bytes-requires c κs = search needs
+
+slice-aggregate-put-all : tie.Need-slice-aggregate-put-all
+slice-aggregate-put-all c = search needs
+
+put-all-requires : tie.Need-put-all-requires
+put-all-requires c κs = search needs
+
+put-places-requires : tie.Need-put-places-requires
+put-places-requires c κs = search needs
+
+mid-bytes-requires : tie.Need-mid-bytes-requires
+mid-bytes-requires c κs = search needs
+
+slice-aggregate-put-all-2 : tie.Need-slice-aggregate-put-all-2
+slice-aggregate-put-all-2 c = search needs
+
+put-all-requires-2 : tie.Need-put-all-requires-2
+put-all-requires-2 c κs = search needs
+
+add-put-all : tie.Need-add-put-all
+add-put-all c = search needs
+
+put-all-requires-3 : tie.Need-put-all-requires-3
+put-all-requires-3 c κs = search needs
+
+same-length : tie.Need-same-length
+same-length c = search needs
+
+returns : tie.Need-returns
+returns c =
+    let a = c .before .before .before .before .before .before .before .before .before .before .before .before .before .before .before .before .before .before .before .before .before .before .before .args in
+    rw (
+      c .before .before .put-all3 .ensures,
+      c .before .before .before .before .before .before .put-all2 .ensures,
+      c .before .before .before .before .before .before .before .before .before .mid-bytes .ensures,
+      c .before .before .before .before .before .before .before .before .before .before .before .before .put-places .ensures,
+      c .before .before .before .before .before .before .before .before .before .before .before .before .before .before .before .before .put-all .ensures,
+      c .before .before .before .before .before .before .before .before .before .before .before .before .before .before .before .before .before .before .before .head-bytes .ensures,
+    )
+    (body-puts (a .e) (elementAt zeroAddress (a .places)) (a .contents .now) (a .out .now))
+
+pub put-body-spec : {M : Type 1} → statement M
+put-body-spec =
+    tie.close
+    (tie.spec
+    cast-count
+    mul-prot
+    add-prot
+    head-bytes-requires
+    slice-aggregate-put-all
+    put-all-requires
+    put-places-requires
+    mid-bytes-requires
+    slice-aggregate-put-all-2
+    put-all-requires-2
+    add-put-all
+    put-all-requires-3
+    same-length
+    returns)

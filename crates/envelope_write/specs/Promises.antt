@@ -1,0 +1,28 @@
+-- Demand 2, envelopes are read and written and each undoes the other: what that says of the definitions. proofs/Promises.antt has the theorems.
+use Prim.Native.Nat.{ℕ}
+use mathlib.Core.Path.{_≡_}
+use mathlib.Core.List.{List, [], _∷_, _++_}
+use lib.ListN.{length, take, drop}
+use Rattle.lists.specs.Places.{elementAt, row}
+use Rattle.address.specs.declared.Address.{Address}
+use Rattle.address.specs.Address.{zeroAddress}
+use Rattle.envelope.specs.declared.Fixed.{Fixed}
+use Rattle.envelope.specs.declared.Read.the-variants.{Envelope}
+use Rattle.envelope.specs.Read.{readOf, contentsOf, destinationsOf}
+use Rattle.envelope_write.specs.declared.Written.the-variants.{Wrote}
+use Rattle.envelope_write.specs.Write.{writeOf, afterOf, carried}
+
+-- reading undoes writing: of the n bytes that were written, the readers give the values back, apart from what the writer does not look at
+pub record ReadUndoesWrite (e : Fixed) (d : ℕ → Address) (l out : List ℕ) (n : ℕ) : Type 0 where
+  pub fields : readOf (take n (afterOf e d l out)) ≡ Envelope (carried e (length l))
+  pub contents : contentsOf (take n (afterOf e d l out)) ≡ l
+  pub destinations : destinationsOf (take n (afterOf e d l out)) ≡ record { count = e .count; places = row 63 zeroAddress d (e .count) }
+
+-- writing undoes reading: what the readers gave of a frame is taken by the writer in any buffer with room, and its bytes are the frame
+pub record WriteUndoesRead (f : List ℕ) (e : Fixed) (out : List ℕ) : Type 0 where
+  pub answer : writeOf e (elementAt zeroAddress (destinationsOf f .places)) (length (contentsOf f)) (length out) ≡ Wrote (length f)
+  pub bytes : afterOf e (elementAt zeroAddress (destinationsOf f .places)) (contentsOf f) out ≡ f ++ drop (length f) out
+
+-- the numbers that the writer gives. Not 1 to 3: it works from values, and not from a frame
+abbrev pub writerNumbers : List ℕ
+writerNumbers = 0 ∷ 4 ∷ 5 ∷ 6 ∷ 7 ∷ 8 ∷ 9 ∷ 10 ∷ []

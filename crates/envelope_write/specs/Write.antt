@@ -1,0 +1,71 @@
+-- The bytes of an envelope that is given as values, and what the writer does with the buffer that it is lent.
+use Prim.Native.Nat.{ℕ, _+_, _*_}
+use mathlib.Core.List.{List, [], _∷_, _++_}
+use mathlib.Core.Bool.{cond}
+use lib.Dec.{ltb}
+use lib.ListN.{length, drop}
+use Rattle.lists.specs.Bytes.{wordBytes}
+use Rattle.lists.specs.Places.{joined}
+use Rattle.lists.specs.Refusals.{refuse, orElse, unlessRefused}
+use Rattle.address.specs.declared.Address.{Address}
+use Rattle.address.specs.Address.{packOf}
+use Rattle.envelope.specs.declared.Fixed.{Fixed}
+use Rattle.envelope.specs.Frame.{checkOf}
+use Rattle.envelope.specs.Refusal.{valuesRefusal}
+use Rattle.envelope_write.specs.declared.Written.{Written}
+use Rattle.envelope_write.specs.declared.Written.the-variants.{Wrote, Refused}
+
+-- <source> and <count&length>, with n the length of the contents; the fields' own length is not looked at
+unfoldable pub headOf : Fixed → ℕ → List ℕ
+headOf e n = packOf (e .source) ++ wordBytes (n * 64 + e .count)
+
+-- <prot&priority>, <ack&seq> and <message_type>
+unfoldable pub midOf : Fixed → List ℕ
+midOf e = ((e .priority * 16 + e .version) ∷ []) ++ wordBytes (e .seq .0 * 2 + cond (e .ack) 1 0) ++ (e .kind ∷ [])
+
+-- all before the check character, of the fields, the destinations d and the contents l: the fields in the order of <envelope>
+unfoldable pub bodyOf : Fixed → (ℕ → Address) → List ℕ → List ℕ
+bodyOf e d l = headOf e (length l) ++ joined packOf d (e .count) ++ midOf e ++ l
+
+-- the whole frame
+unfoldable pub bytesOf : Fixed → (ℕ → Address) → List ℕ → List ℕ
+bytesOf e d l = bodyOf e d l ++ (checkOf (bodyOf e d l) ∷ [])
+
+-- the size of a frame with n bytes of contents
+abbrev pub sizeFor : Fixed → ℕ → ℕ
+sizeFor e n = 10 + 3 * e .count + n
+
+-- 4 to 10, of the fields, the destinations, n bytes of contents and the room lent
+unfoldable pub writeRefusal : Fixed → (ℕ → Address) → ℕ → ℕ → ℕ
+writeRefusal e d n room = orElse (valuesRefusal e n d) (refuse 10 (ltb room (sizeFor e n)) 0)
+
+-- document 01's number and value for each case of an answer: no byte is written beside a refusal
+abbrev pub writeNumber : Written → ℕ
+writeNumber (Wrote n) = 0
+writeNumber (Refused k) = k
+
+abbrev pub writeCount : Written → ℕ
+writeCount (Wrote n) = n
+writeCount (Refused k) = 0
+
+-- the number of bytes written, or the refusal
+unfoldable pub writeOf : Fixed → (ℕ → Address) → ℕ → ℕ → Written
+writeOf e d n room = unlessRefused (writeRefusal e d n room) (Wrote (sizeFor e n)) (Refused (writeRefusal e d n room))
+
+-- what the buffer then holds: the frame, and what stood after it; on a refusal what it held
+unfoldable pub afterOf : Fixed → (ℕ → Address) → List ℕ → List ℕ → List ℕ
+afterOf e d l out = unlessRefused (writeRefusal e d (length l) (length out)) (bytesOf e d l ++ drop (length (bytesOf e d l)) out) out
+
+-- the fields as they are read back: the length is that of the contents
+abbrev pub carried : Fixed → ℕ → Fixed
+carried e n =
+    record {
+      source = e .source;
+      count = e .count;
+      length = n;
+      priority = e .priority;
+      version = e .version;
+      ack = e .ack;
+      seq = e .seq;
+      kind = e .kind;
+    }

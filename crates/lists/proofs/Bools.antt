@@ -1,0 +1,91 @@
+-- Conjunctions of tests, over plain Bools.
+use mathlib.Core.Path.{_≡_, refl, sym, _∙_}
+use borrow.Author.Tests.{not-true, not-false}
+use mathlib.Core.Bool.{Bool, true, false, not, _&&_, _||_, true≢false}
+
+pub stop1 : {x : Bool} (y : Bool) → x ≡ false → false ≡ (x && y)
+stop1 y p = rw p
+
+pub stop2 : {x y : Bool} (z : Bool) → x ≡ true → y ≡ false → false ≡ (x && y && z)
+stop2 z p q = rw (p, q)
+
+pub go1 : {x y : Bool} → x ≡ true → y ≡ (x && y)
+go1 p = rw p
+
+pub go2 : {x y z : Bool} → x ≡ true → y ≡ true → z ≡ (x && y && z)
+go2 p q = rw (p, q)
+
+pub and-left : (x y : Bool) → (x && y) ≡ true → x ≡ true
+and-left true y h = refl
+and-left false y h = h
+
+pub and-right : (x y : Bool) → (x && y) ≡ true → y ≡ true
+and-right true y h = h
+and-right false true h = refl
+and-right false false h = h
+
+pub and-both : {x y : Bool} → x ≡ true → y ≡ true → (x && y) ≡ true
+and-both p q = rw (p, q)
+
+-- What a test of a call's result tells of the call's definition: r is the result, s what the callee ensures of it.
+pub told-no : {r s : Bool} → r ≡ s → not r ≡ true → s ≡ false
+told-no e h = sym e ∙ not-true _ h
+
+pub told-yes : {r s : Bool} → r ≡ s → not r ≡ false → s ≡ true
+told-yes e h = sym e ∙ not-false _ h
+
+pub told-true : {r s : Bool} → r ≡ s → r ≡ true → s ≡ true
+told-true e h = sym e ∙ h
+
+pub told-false : {r s : Bool} → r ≡ s → r ≡ false → s ≡ false
+told-false e h = sym e ∙ h
+
+pub ruleset told = (told-no, told-yes, told-true, told-false)
+
+pub and-no-left : {x : Bool} (y : Bool) → x ≡ false → (x && y) ≡ false
+and-no-left y p = rw p
+
+pub and-no-right : (x : Bool) {y : Bool} → y ≡ false → (x && y) ≡ false
+and-no-right true p = p
+and-no-right false p = refl
+
+pub or-no-left : (x y : Bool) → (x || y) ≡ false → x ≡ false
+or-no-left true y h = h
+or-no-left false y h = refl
+
+pub or-no-right : (x y : Bool) → (x || y) ≡ false → y ≡ false
+or-no-right true true h = h
+or-no-right true false h = refl
+or-no-right false y h = h
+
+pub or-right : (x : Bool) → (x || true) ≡ true
+or-right true = refl
+or-right false = refl
+
+pub or-none : (x : Bool) → (x || false) ≡ x
+or-none true = refl
+or-none false = refl
+
+pub or-neither-of : (x y : Bool) → (x || y) ≡ false → (x ≡ false) × (y ≡ false)
+or-neither-of x y h = (or-no-left x y h, or-no-right x y h)
+
+pub or-neither : {x y : Bool} → x ≡ false → y ≡ false → (x || y) ≡ false
+or-neither p q = rw (p, q)
+
+-- what holds only where another thing does fails where that fails
+pub fails-with : (x y : Bool) → (y ≡ true → x ≡ true) → x ≡ false → y ≡ false
+fails-with x false f h = refl
+fails-with x true f h = sym (f refl) ∙ h
+
+pub not-no : {x : Bool} → x ≡ false → not x ≡ true
+not-no p = rw p
+
+pub not-yes : {x : Bool} → x ≡ true → not x ≡ false
+not-yes p = rw p
+
+pub no-not : (x : Bool) → not x ≡ true → x ≡ false
+no-not true h = sym h
+no-not false h = refl
+
+pub both-ways : {x : Bool} → x ≡ true → x ≡ false → ⊥
+both-ways p q = true≢false (sym p ∙ q)

@@ -1,0 +1,48 @@
+-- Runs of stores, `lib.Seq.sets`: one after another, past the end, and what then stands where.
+use Prim.Native.Nat.{ℕ, suc, _+_, _*_, _<_, _≤_}
+use mathlib.Core.Path.{_≡_, refl, sym, ap, _∙_}
+use mathlib.Core.List.{List, [], _∷_, _++_}
+use native.Mathlib.Omega.{arith}
+use native.Mathlib.Numerals.{add-one}
+use native.Mathlib.Nat.{zero-add, add-zero}
+use lib.ListN.{length, getD, take, drop, set, take-append-drop}
+use lib.Seq.{sets, sets-eq, length-sets, set-out, take-suc, take-at, length-take-le}
+use Rattle.lists.specs.Places.{joined}
+use Rattle.lists.proofs.Places.{length-joined, joined-next}
+
+module _ {A : Type 0} where
+  -- a run of stores after another is one run
+  pub sets-append : (vs l : List A) (i : ℕ) (ws : List A) (k : ℕ) → k ≡ i + length vs → sets (sets l i vs) k ws ≡ sets l i (vs ++ ws)
+  sets-append [] l i ws k e = rw (e, add-zero)
+  sets-append (a ∷ vs) l i ws k e = sets-append vs (set l i a) (suc i) ws k (omega arith)
+
+  -- one store more
+  pub sets-more : (l : List A) (at : ℕ) (s : List A) (i : ℕ) (z : A) → i < length s → set (sets l at (take i s)) (at + i) (getD s i z) ≡ sets l at (take (i + 1) s)
+  sets-more l at s i z h =
+      rw (add-one, take-suc s i z h)
+      (sets-append (take i s) l at (getD s i z ∷ []) (at + i) (ap (λ (k : ℕ). at + k) (sym (length-take-le i s (omega arith)))))
+
+  -- stores past the end change nothing, so that those that fit are all
+  pub sets-past : (vs l : List A) (i : ℕ) → length l ≤ i → sets l i vs ≡ l
+  sets-past [] l i h = refl
+  sets-past (a ∷ vs) l i h = rw (set-out l i a h) (sets-past vs l (suc i) (omega arith))
+
+  pub sets-cut : (l : List A) (at : ℕ) (vs : List A) (n : ℕ) → n ≤ length vs → length l ≤ at + n → sets l at (take n vs) ≡ sets l at vs
+  sets-cut l at vs n h k =
+      let e : length (take n vs) ≡ n = length-take-le n vs h in
+      sym (ap (sets l at) (sym (take-append-drop n vs))
+      ∙ sym (sets-append (take n vs) l at (drop n vs) (at + n) (rw e refl))
+      ∙ sets-past (drop n vs) (sets l at (take n vs)) (at + n) (rw length-sets k))
+
+  -- what was stored from the front stands there
+  pub sets-front : (l vs : List A) → length vs ≤ length l → sets l 0 vs ≡ vs ++ drop (length vs) l
+  sets-front l vs h = sets-eq vs l 0 (omega arith) ∙ rw zero-add
+
+  pub taken-front : (l vs : List A) (n : ℕ) → n ≡ length vs → n ≤ length l → take n (sets l 0 vs) ≡ vs
+  taken-front l vs n e h = rw (sets-front l vs (omega arith)) (take-at vs (drop (length vs) l) n (sym e))
+
+-- a row of things of k bytes each, one more
+pub joined-stored : {A : Type 0} (f : A → List ℕ) (k : ℕ) → ((x : A) → length (f x) ≡ k) → (l : List ℕ) (at : ℕ) (d : ℕ → A) (i : ℕ)
+    → sets (sets l at (joined f d i)) (at + k * i) (f (d i)) ≡ sets l at (joined f d (i + 1))
+joined-stored f k w l at d i =
+    rw (joined-next f d i) (sets-append (joined f d i) l at (f (d i)) (at + k * i) (rw (length-joined f k w d i) refl))

@@ -1,0 +1,3 @@
+pub mod Places
+pub mod Bytes
+pub mod Refusals

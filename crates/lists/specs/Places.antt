@@ -1,0 +1,42 @@
+-- Values at the places 0, 1, 2, ..: tests over the first n of them, and lists made of them. Nothing here speaks of addresses or frames.
+use mathlib.Core.Bool.{Bool, false, _||_}
+use mathlib.Core.List.{List, [], _∷_, _++_}
+use Prim.Native.Nat.{ℕ, zero, suc, _-_}
+use lib.ListN.{getD, replicate}
+
+-- the test holds at some place below n
+unfoldable pub anyBelow : (ℕ → Bool) → ℕ → Bool
+anyBelow p zero = false
+anyBelow p (suc n) = anyBelow p n || p n
+
+module _ {A : Type 0} (same : A → A → Bool) (d : ℕ → A) where
+  -- the places i and j have the same value
+  unfoldable pub sameAt : ℕ → ℕ → Bool
+  sameAt i j = same (d i) (d j)
+
+  -- the place i has the value of an earlier one
+  unfoldable pub repeatAt : ℕ → Bool
+  repeatAt i = anyBelow (sameAt i) i
+
+  -- some place below n has the value of an earlier one
+  unfoldable pub repeats : ℕ → Bool
+  repeats n = anyBelow repeatAt n
+
+module _ {A : Type 0} where
+  -- the values at the places of a list; past its end z
+  unfoldable pub elementAt : A → List A → ℕ → A
+  elementAt z l i = getD l i z
+
+  -- the values at the places below n, in order
+  unfoldable pub firsts : (ℕ → A) → ℕ → List A
+  firsts d zero = []
+  firsts d (suc n) = firsts d n ++ (d n ∷ [])
+
+  -- a row of m places: the first n have the values of d, the unused ones z
+  unfoldable pub row : ℕ → A → (ℕ → A) → ℕ → List A
+  row m z d n = firsts d n ++ replicate (m - n) z
+
+  -- the lists that f gives for the values at the places below n, joined
+  unfoldable pub joined : (A → List ℕ) → (ℕ → A) → ℕ → List ℕ
+  joined f d zero = []
+  joined f d (suc n) = joined f d n ++ f (d n)
