@@ -11,7 +11,7 @@ use borrow.Author.Tests.{ltb-false, lt-ltb, le-ltb}
 use Rattle.lists.specs.Places.{repeats, elementAt, row, joined}
 use Rattle.lists.specs.Refusals.{unlessRefused}
 use Rattle.lists.proofs.Bools.{or-right}
-use Rattle.lists.proofs.Places.{length-joined}
+use Rattle.lists.proofs.Places.{Agree, length-joined, joined-agree}
 use Rattle.lists.proofs.Stores.{sets-append, sets-front, taken-front}
 use Rattle.lists.proofs.Refusals.{pass, or-pass, or-refused, taken, refused}
 use Rattle.address.specs.declared.Address.{Address}
@@ -20,7 +20,7 @@ use Rattle.envelope.specs.declared.Fixed.{Fixed}
 use Rattle.envelope.specs.Frame.{checkOf}
 use Rattle.envelope.specs.Refusal.{outside, outOfRange, valueRefusal, valuesRefusal}
 use Rattle.envelope.specs.Keys.{keyAt}
-use Rattle.envelope.proofs.Laws.{Valued, valued, outside-false, ranged, version-small, keys-agree}
+use Rattle.envelope.proofs.Laws.{Valued, valued, outside-false, ranged, version-small, keys-agree, values-agree}
 use Rattle.envelope_write.specs.declared.Written.{Written}
 use Rattle.envelope_write.specs.declared.Written.the-variants.{Wrote, Refused}
 use Rattle.envelope_write.specs.Write.{headOf, midOf, bodyOf, bytesOf, sizeFor, writeRefusal, writeNumber, writeCount, writeOf, afterOf}
@@ -127,6 +127,37 @@ module _ (e : Fixed) (d : ℕ → Address) (n room : ℕ) where
         numbered = ranged e d (v .inside) .seq-le;
         roomy = ltb-false _ _ (r .0);
       }
+
+-- two ways to give the destinations that agree
+module _ (e : Fixed) (d d' : ℕ → Address) (a : Agree d d' (e .count)) where
+  pub write-agree : (n room : ℕ) → writeRefusal e d n room ≡ writeRefusal e d' n room
+  unfolding writeRefusal
+  write-agree n room = rw (values-agree e n d d' a)
+
+  pub bytes-agree : (l : List ℕ) → bytesOf e d l ≡ bytesOf e d' l
+  unfolding bytesOf bodyOf
+  bytes-agree l = rw (joined-agree packOf d d' (e .count) a)
+
+  pub after-agree : (l out : List ℕ) → afterOf e d l out ≡ afterOf e d' l out
+  unfolding afterOf
+  after-agree l out = rw (write-agree (length l) (length out), bytes-agree l)
+
+size-of : (k n r : ℕ) → unlessRefused r (Wrote n) (Refused r) ≡ Wrote k → (r ≡ 0) × (k ≡ n)
+unfolding unlessRefused
+size-of k n zero h = (refl, cc)
+size-of k n (suc r) h = let z : _≡_ {A = ℕ} 0 1 = cc in absurd (omega arith)
+
+-- an answer that says how many bytes were written is no refusal, and the number is the frame's size
+pub wrote : (e : Fixed) (d : ℕ → Address) (n room : ℕ) {k : ℕ} → writeOf e d n room ≡ Wrote k → (writeRefusal e d n room ≡ 0) × (k ≡ sizeFor e n)
+unfolding writeOf
+wrote e d n room {k} h = size-of k (sizeFor e n) (writeRefusal e d n room) h
+
+-- the largest frame: 63 destinations and L bytes of contents
+pub wrote-small : (e : Fixed) (d : ℕ → Address) (n room k : ℕ) → writeOf e d n room ≡ Wrote k → k ≤ 1222
+wrote-small e d n room k h =
+    let w = wrote e d n room h in
+    let r = ready e d n room (w .0) in
+    omega (arith, w .1, r .counted, r .short)
 
 -- ---- all that the writer promises, from its refusal
 

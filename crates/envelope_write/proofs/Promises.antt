@@ -1,15 +1,14 @@
 -- The theorems of demand 2 on envelopes: read-undoes-write, write-undoes-read; and the numbers that the writer gives, writer-numbers.
-use Prim.Native.Nat.{ℕ, zero, suc, _≤_}
+use Prim.Native.Nat.{ℕ, _≤_}
 use mathlib.Core.Path.{_≡_, refl, sym, ap, _∙_}
 use mathlib.Core.List.{List, _++_}
 use mathlib.Core.Bool.{Bool, true, false}
 use lib.Dec.{ltb}
 use lib.ListN.{length, take, drop}
 use lib.Seq.{take-at}
-use native.Mathlib.Omega.{arith}
 use Rattle.lists.specs.Bytes.{Bytes}
 use Rattle.lists.specs.Places.{elementAt, repeats}
-use Rattle.lists.specs.Refusals.{refuse, orElse, unlessRefused, among}
+use Rattle.lists.specs.Refusals.{refuse, orElse, among}
 use Rattle.lists.proofs.Refusals.{taken}
 use Rattle.address.specs.declared.Address.{Address}
 use Rattle.address.specs.Address.{zeroAddress, sameAddress}
@@ -19,24 +18,18 @@ use Rattle.envelope.specs.Frame.{fieldsOf}
 use Rattle.envelope.specs.Refusal.{mostDestinations, longestContents, lowestPriority, outside, outOfRange, wrongVersion, valueRefusal}
 use Rattle.envelope.specs.Read.{readOf, contentsOf, destinationsOf}
 use Rattle.envelope.proofs.Laws.{read-envelope}
-use Rattle.envelope_write.specs.declared.Written.the-variants.{Wrote, Refused}
+use Rattle.envelope_write.specs.declared.Written.the-variants.{Wrote}
 use Rattle.envelope_write.specs.Write.{bytesOf, sizeFor, writeRefusal, writeOf, afterOf}
 use Rattle.envelope_write.specs.Promises.{ReadUndoesWrite, WriteUndoesRead, writerNumbers}
-use Rattle.envelope_write.proofs.Laws.{length-bytes, write-taken}
+use Rattle.envelope_write.proofs.Laws.{length-bytes, write-taken, wrote}
 use Rattle.envelope_write.proofs.ReadBack.{fields-read, contents-read, destinations-read}
 use Rattle.envelope_write.proofs.WriteBack.{taken-again, bytes-again}
-
--- an answer that says how many bytes were written is no refusal
-wrote : (k n m : ℕ) → unlessRefused k (Wrote m) (Refused k) ≡ Wrote n → (k ≡ 0) × (n ≡ m)
-unfolding unlessRefused
-wrote zero n m h = (refl, cc)
-wrote (suc k) n m h = let z : _≡_ {A = ℕ} 0 1 = cc in absurd (omega arith)
 
 -- reading undoes writing, of whatever the writer takes
 pub read-undoes-write : (e : Fixed) (d : ℕ → Address) (l out : List ℕ) (n : ℕ) → writeOf e d (length l) (length out) ≡ Wrote n → ReadUndoesWrite e d l out n
 unfolding writeOf afterOf
 read-undoes-write e d l out n h =
-    let w = wrote (writeRefusal e d (length l) (length out)) n (sizeFor e (length l)) h in
+    let w = wrote e d (length l) (length out) h in
     let z = write-taken e d (length l) (length out) (w .0) in
     let b : take n (afterOf e d l out) ≡ bytesOf e d l =
     ap (take n) (taken _ _ (w .0)) ∙ take-at (bytesOf e d l) (drop (length (bytesOf e d l)) out) n (length-bytes e d l ∙ sym (w .1)) in

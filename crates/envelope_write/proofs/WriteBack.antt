@@ -11,7 +11,7 @@ use lib.ListN.{length, getD, take, drop, length-drop, take-append-drop}
 use lib.Seq.{take-add, drop-cons}
 use Rattle.lists.specs.Bytes.{Bytes, wordAt}
 use Rattle.lists.specs.Places.{elementAt, joined}
-use Rattle.lists.proofs.Places.{Agree, row-at, joined-agree}
+use Rattle.lists.proofs.Places.{Agree, row-at}
 use Rattle.lists.proofs.Refusals.{or-pass}
 use Rattle.address.specs.Address.{packOf, zeroAddress}
 use Rattle.address.proofs.Laws.{undo}
@@ -20,7 +20,7 @@ use Rattle.envelope.specs.Refusal.{frameRefusal, valuesRefusal, refusalOf}
 use Rattle.envelope.specs.Read.{contentsOf, destinationsOf}
 use Rattle.envelope.proofs.Laws.{values-agree, accepted, last-byte, part-bytes, contents-taken, contents-long, destinations-taken}
 use Rattle.envelope_write.specs.Write.{headOf, midOf, bodyOf, bytesOf, writeRefusal}
-use Rattle.envelope_write.proofs.Laws.{write-fits}
+use Rattle.envelope_write.proofs.Laws.{write-fits, bytes-agree}
 
 -- some bytes of a list, one by one
 spelt : List ℕ → ℕ → ℕ → List ℕ
@@ -114,7 +114,6 @@ module _ (f : List ℕ) (b : Bytes f) (z : refusalOf f ≡ 0) where
   taken-again room h = rw (contents-long f z) (sym (write-fits (fieldsOf f) _ (lengthOf f) room values-same (omega (arith, sized))))
 
   pub bytes-again : bytesOf (fieldsOf f) (elementAt zeroAddress (destinationsOf f .places)) (contentsOf f) ≡ f
-  unfolding contents bytesOf bodyOf fieldsOf
+  unfolding contents fieldsOf
   bytes-again =
-      rw (contents-taken f z, joined-agree packOf (elementAt zeroAddress (destinationsOf f .places)) (destinationAt (drop partAt f)) (countOf f) (λ i l. sym (places-same i l)))
-      bytes-same
+      rw (contents-taken f z) (sym (bytes-agree (fieldsOf f) (destinationAt (drop partAt f)) _ places-same _) ∙ bytes-same)

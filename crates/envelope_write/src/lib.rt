@@ -32,3 +32,13 @@ pub fn write_frame(e: Fixed, places: [Address; 63], contents: &[u8], out: &mut [
     let n = put_frame(e, places, contents, out);
     Written::Wrote(n)
 }
+
+// Document 01's number of an answer: 0 where a frame was written.
+pub fn write_number(answer: Written) -> u8
+    ensures { λ r. ⌜ r ≡ writeNumber answer ⌝ }
+{
+    match answer {
+        Written::Wrote(_) => 0,
+        Written::Refused(number) => number,
+    }
+}

@@ -2,13 +2,13 @@
 use Prim.Native.Nat.{ℕ, zero, suc, _+_, _*_, _-_, _<_, _≤_}
 use mathlib.Core.Path.{_≡_, refl, sym, _∙_}
 use mathlib.Core.Bool.{Bool, true, false, _||_}
-use mathlib.Core.List.{List, [], _∷_, _++_, append-assoc}
+use mathlib.Core.List.{List, [], _∷_, _++_, append-assoc, append-nil}
 use native.Mathlib.Omega.{arith}
 use native.Mathlib.Numerals.{add-one}
-use native.Mathlib.Nat.{mul-zero, mul-suc, sub-zero}
+use native.Mathlib.Nat.{add-zero, add-suc, mul-zero, mul-suc, sub-zero}
 use native.Mathlib.Decide.{decLt}
-use lib.ListN.{length, getD, set, replicate, length-append, length-replicate, List·getD-append}
-use lib.Seq.{getD-at, set-at}
+use lib.ListN.{length, getD, set, replicate, length-append, length-replicate, replicate-append-replicate, List·getD-append}
+use lib.Seq.{getD-at, getD-append-add, set-at}
 use Rattle.lists.specs.Places.{anyBelow, sameAt, repeatAt, repeats, elementAt, firsts, row, joined}
 use Rattle.lists.proofs.Bools.{or-right, or-none}
 
@@ -115,6 +115,17 @@ module _ {A : Type 0} where
   unfolding row elementAt
   row-at m z d n i h = sym (List·getD-append (firsts d n) (replicate (m - n) z) z i (rw (length-firsts d n) h) ∙ firsts-at d n i z h)
 
+  pub row-past : (m : ℕ) (z : A) (d : ℕ → A) (n k : ℕ) → elementAt z (row m z d n) (n + k) ≡ z
+  unfolding row elementAt
+  row-past m z d n k =
+      let e : n + k ≡ length (firsts d n) + k = rw (length-firsts d n) refl in
+      rw (e, getD-append-add) (unused (m - n) k)
+    where
+      unused : (r i : ℕ) → getD (replicate r z) i z ≡ z
+      unused zero i = refl
+      unused (suc r) zero = refl
+      unused (suc r) (suc i) = unused r i
+
   pub row-agree : (m : ℕ) (z : A) (d d' : ℕ → A) (n : ℕ) → Agree d d' n → row m z d n ≡ row m z d' n
   unfolding row
   row-agree m z d d' n h = rw (firsts-agree d d' n h)
@@ -142,3 +153,11 @@ module _ {A : Type 0} where
   unfolding joined
   length-joined f k w d zero = sym (mul-zero k)
   length-joined f k w d (suc n) = rw (length-append, w (d n), length-joined f k w d n, mul-suc)
+
+  -- what stands past n, where each value there is z and f of it is w zeros
+  pub joined-padded : (f : A → List ℕ) (w : ℕ) (z : A) (d d' : ℕ → A) (n : ℕ) → Agree d' d n → ((k : ℕ) → d' (n + k) ≡ z) → f z ≡ replicate w 0
+      → (k : ℕ) → joined f d' (n + k) ≡ joined f d n ++ replicate (w * k) 0
+  unfolding joined
+  joined-padded f w z d d' n a p q zero = rw (add-zero, joined-agree f d' d n a, mul-zero, append-nil)
+  joined-padded f w z d d' n a p q (suc k) =
+      rw (add-suc, p k, q, joined-padded f w z d d' n a p q k, append-assoc, replicate-append-replicate, mul-suc)

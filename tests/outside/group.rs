@@ -1,0 +1,81 @@
+//! A group of tests: its checks are counted, its first failures printed, and then it stops.
+
+use crate::draw::Draw;
+use std::collections::BTreeMap;
+
+// Failures that a group prints before it stops.
+const FEW: u64 = 4;
+
+/// The group has failed often enough.
+pub struct Stop;
+
+pub type Outcome = Result<(), Stop>;
+
+/// A group's name and its tests.
+pub type Tests = (&'static str, fn(&mut Group, &mut Draw) -> Outcome);
+
+pub struct Group {
+    name: &'static str,
+    pub checks: u64,
+    pub failed: u64,
+}
+
+impl Group {
+    /// Counts one check, and gives whether it held.
+    pub fn check(&mut self, held: bool, report: impl FnOnce() -> String) -> Result<bool, Stop> {
+        self.checks += 1;
+        if !held {
+            self.failed += 1;
+            println!("{}: {}", self.name, report());
+        }
+        if self.failed < FEW {
+            Ok(held)
+        } else {
+            Err(Stop)
+        }
+    }
+}
+
+/// Runs one group from the seed alone, so that a new group leaves the others' draws as they are.
+pub fn run((name, tests): Tests, seed: u64) -> Group {
+    let mut group = Group { name, checks: 0, failed: 0 };
+    let stopped = tests(&mut group, &mut Draw::new(seed)).is_err();
+    let end = if stopped { ", stopped" } else { "" };
+    println!("{name}: {} checks, {} failed{end}", group.checks, group.failed);
+    group
+}
+
+/// How often a call gave each number.
+pub struct Tally {
+    call: &'static str,
+    seen: BTreeMap<u8, u64>,
+}
+
+impl Tally {
+    pub fn new(call: &'static str) -> Tally {
+        Tally { call, seen: BTreeMap::new() }
+    }
+
+    pub fn saw(&mut self, number: u8) {
+        *self.seen.entry(number).or_default() += 1;
+    }
+
+    /// Prints the tally and checks it: these numbers often enough, and no other.
+    pub fn settle(&self, group: &mut Group, numbers: &[u8], least: u64) -> Outcome {
+        let calls: u64 = self.seen.values().sum();
+        let shown: Vec<String> =
+            self.seen.iter().map(|(number, times)| format!("{number} x {times}")).collect();
+        println!("{}: {calls} calls gave {}", self.call, shown.join(", "));
+        for number in 0..=u8::MAX {
+            let times = self.seen.get(&number).copied().unwrap_or(0);
+            let (held, asked) = match numbers.contains(&number) {
+                true => (times >= least, least),
+                false => (times == 0, 0),
+            };
+            group.check(held, || {
+                format!("{} gave {number}\n  expected {asked} times\n  came {times}", self.call)
+            })?;
+        }
+        Ok(())
+    }
+}

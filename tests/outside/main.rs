@@ -1,0 +1,36 @@
+//! The outside tests: the library behind its C interface, compared with what is written here a
+//! second time from the documents. A seed may be given as the first argument.
+
+mod bits;
+mod door;
+mod draw;
+mod envelope;
+mod group;
+mod image;
+mod wire;
+
+use std::process::exit;
+
+const SEED: u64 = 92;
+
+fn main() {
+    let seed = match std::env::args().nth(1).map(|text| text.parse()) {
+        None => SEED,
+        Some(Ok(seed)) => seed,
+        Some(Err(_)) => {
+            eprintln!("outside: the seed is a number");
+            exit(2);
+        }
+    };
+    println!("seed {seed}");
+    let (mut checks, mut failed) = (0, 0);
+    for tests in [envelope::GROUPS].concat() {
+        let group = group::run(tests, seed);
+        checks += group.checks;
+        failed += group.failed;
+    }
+    println!("outside: {checks} checks, {failed} failed");
+    if failed > 0 {
+        exit(1);
+    }
+}
