@@ -101,9 +101,14 @@ module _ (b l out : List ℕ) where
         says-refused (p ∙ rw (le-ltb (length b) 267 room, lt-ltb 1 (getD b 9 0) h)) (λ z. stray-some (outside 63 (fieldsIn b .count)) (ltb 1023 (length l)) (sym p ∙ z))
 
     module _ (bit : getD b 9 0 ≤ 1) where
-      by-writer : writeNumberFor b (length l) (length out) ≡ writeRefusal (fieldsIn b) (destinationIn b) (length l) (length out)
+      -- then the writer's own number and buffer are what C gets
+      pub by-writer : writeNumberFor b (length l) (length out) ≡ writeRefusal (fieldsIn b) (destinationIn b) (length l) (length out)
       unfolding writeNumberFor
       by-writer = rw (le-ltb (length b) 267 room, le-ltb 1 (getD b 9 0) bit)
+
+      pub buffer-by-writer : frameAfter b l out ≡ afterOf (fieldsIn b) (destinationIn b) l out
+      unfolding frameAfter afterOf
+      buffer-by-writer = rw by-writer
 
       pub write-many : 63 < fieldsIn b .count → Says b l out 4 0 out
       write-many h = says-refused (count-refused _ _ _ _ h ∙ sym by-writer) (λ z. omega arith)
@@ -114,9 +119,9 @@ module _ (b l out : List ℕ) where
           → writeCount a ≡ unlessRefused (writeRefusal (fieldsIn b) (elementAt zeroAddress places) (length l) (length out)) (sizeFor (fieldsIn b) (length l)) 0
           → o ≡ afterOf (fieldsIn b) (elementAt zeroAddress places) l out
           → r ≡ writeNumber a → w ≡ writeCount a → Says b l out r w o
-      unfolding writtenFor frameAfter afterOf
+      unfolding writtenFor
       write-done places a q number count buffer hr hw =
           let e = fieldsIn b in
           let g : Agree (elementAt zeroAddress places) (destinationIn b) (e .count) = λ i h. rw q (sym (row-at 63 zeroAddress (destinationIn b) (e .count) i h)) in
           let t : writeRefusal e (elementAt zeroAddress places) (length l) (length out) ≡ writeNumberFor b (length l) (length out) = write-agree e _ _ g _ _ ∙ sym by-writer in
-          (hr ∙ number ∙ t, hw ∙ count ∙ rw t, buffer ∙ after-agree e _ _ g l out ∙ rw (← by-writer))
+          (hr ∙ number ∙ t, hw ∙ count ∙ rw t, buffer ∙ after-agree e _ _ g l out ∙ sym buffer-by-writer)

@@ -1,2 +1,3 @@
 pub mod Address
 pub mod Envelope
+pub mod Promises

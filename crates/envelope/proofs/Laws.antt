@@ -5,11 +5,12 @@ use mathlib.Core.List.{List, [], _∷_, _++_}
 use mathlib.Core.Bool.{Bool, true, false, not, cond}
 use native.Mathlib.Omega.{arith}
 use native.Mathlib.Numerals.{add-one}
+use native.Mathlib.Nat.{add-sub-cancel-left}
 use lib.Bits.{bitXor}
 use lib.ListN.{length, getD, take, drop, replicate, length-drop, drop-of-length-le}
 use lib.Seq.{take-suc, take-all, drop-cons, getD-drop, length-take-le}
 use lib.Dec.{eqb, ltb}
-use borrow.Author.Tests.{le-ltb, ltb-false, eqb-true, eqb-false, not-false}
+use borrow.Author.Tests.{lt-ltb, le-ltb, ltb-false, eqb-true, eqb-false, not-false}
 use Rattle.lists.specs.Bytes.{Bytes, wordAt}
 use Rattle.lists.specs.Places.{anyBelow, repeats, elementAt, row}
 use Rattle.lists.specs.Refusals.{unlessRefused}
@@ -20,6 +21,7 @@ use Rattle.address.specs.declared.Address.{Address}
 use Rattle.address.specs.Address.{inRange, sameAddress, keyOf, zeroAddress}
 use Rattle.address.proofs.Laws.{unpack-ranged, key-same}
 use Rattle.envelope.specs.declared.Fixed.{Fixed}
+use Rattle.envelope.specs.declared.Destinations.{Destinations}
 use Rattle.envelope.specs.declared.Read.{Read}
 use Rattle.envelope.specs.declared.Read.the-variants.{Envelope, Refused}
 use Rattle.envelope.specs.Frame.{partAt, lengthOf, countOf, contentsStart, sizeOf, fieldsOf, destinationAt, xorFrom, checkOf}
@@ -135,6 +137,41 @@ valued e n stray equal h =
     let p8 = pass 7 equal _ (p7 .1) in
     let p9 = pass 8 (wrongVersion (e .version) (e .kind)) _ (p8 .1) in
     record { counted = p4 .0; short = ltb-false _ _ (p5 .0); inside = p6 .0; urgent = p7 .0; distinct = p8 .0; versioned = p9 .0 }
+
+-- the number of values, from the tests on the way
+module _ (e : Fixed) (n : ℕ) (stray equal : Bool) where
+  pub values-4 : outside 63 (e .count) ≡ true → 4 ≡ valueRefusal e n stray equal
+  unfolding valueRefusal
+  values-4 h = rw h
+
+  module _ (counted : outside 63 (e .count) ≡ false) where
+    pub values-5 : 1023 < n → 5 ≡ valueRefusal e n stray equal
+    unfolding valueRefusal
+    values-5 h = rw (counted, lt-ltb 1023 n h)
+
+    module _ (short : n ≤ 1023) where
+      pub values-6 : stray ≡ true → 6 ≡ valueRefusal e n stray equal
+      unfolding valueRefusal
+      values-6 h = rw (counted, le-ltb 1023 n short, h)
+
+      module _ (inside : stray ≡ false) where
+        pub values-7 : outside 9 (e .priority) ≡ true → 7 ≡ valueRefusal e n stray equal
+        unfolding valueRefusal
+        values-7 h = rw (counted, le-ltb 1023 n short, inside, h)
+
+        module _ (urgent : outside 9 (e .priority) ≡ false) where
+          pub values-8 : equal ≡ true → 8 ≡ valueRefusal e n stray equal
+          unfolding valueRefusal
+          values-8 h = rw (counted, le-ltb 1023 n short, inside, urgent, h)
+
+          module _ (distinct : equal ≡ false) where
+            pub values-9 : wrongVersion (e .version) (e .kind) ≡ true → 9 ≡ valueRefusal e n stray equal
+            unfolding valueRefusal
+            values-9 h = rw (counted, le-ltb 1023 n short, inside, urgent, distinct, h)
+
+            pub values-right : wrongVersion (e .version) (e .kind) ≡ false → 0 ≡ valueRefusal e n stray equal
+            unfolding valueRefusal
+            values-right h = rw (counted, le-ltb 1023 n short, inside, urgent, distinct, h)
 
 -- an accepted frame
 pub record Accepted (f : List ℕ) : Type 0 where
@@ -283,6 +320,21 @@ module _ (f : List ℕ) (h : refusalOf f ≡ 0) where
   contents-long =
       rw contents-taken
       (length-take-le (lengthOf f) (drop (contentsStart f) f) (rw length-drop (omega (arith, accepted f h .frame .sized))))
+
+-- what the code cuts out of an accepted frame, by the fields that the reader gave
+module _ (f : List ℕ) (e : Fixed) (o : Opened (refusalOf f) e (fieldsOf f)) where
+  pub contents-cut : take (9 + 3 * e .count + e .length - (9 + 3 * e .count)) (drop (9 + 3 * e .count) f) ≡ contentsOf f
+  unfolding fieldsOf
+  contents-cut = rw (o .same, add-sub-cancel-left (9 + 3 * countOf f) (lengthOf f)) (sym (contents-taken f (o .none)))
+
+  pub contents-begin : 9 + 3 * e .count ≡ contentsAt f
+  unfolding fieldsOf
+  contents-begin = rw (o .same) (sym (contents-at-taken f (o .none)))
+
+  pub destinations-cut : {places : List Address} → places ≡ row 63 zeroAddress (destinationAt (take (length f - 5) (drop 5 f))) (e .count)
+      → _≡_ {A = Destinations} (record { count = e .count; places = places }) (destinationsOf f)
+  unfolding fieldsOf
+  destinations-cut h = rw (h, o .same, part-from 5 f) (sym (destinations-taken f (o .none)))
 
 module _ (f : List ℕ) (h : refusalOf f ≡ 0 → ⊥) where
   pub contents-refused : contentsOf f ≡ []

@@ -1,10 +1,9 @@
 -- The bytes of an envelope that the writer takes are accepted, and the readers give the envelope back.
-use Prim.Native.Nat.{ℕ, zero, suc, _+_, _*_, _/_, _%_, _-_, _<_}
+use Prim.Native.Nat.{ℕ, _+_, _*_, _/_, _%_, _-_, _<_}
 use mathlib.Core.Path.{_≡_, refl, sym, ap, _∙_}
 use mathlib.Core.List.{List, [], _∷_, _++_, append-assoc}
 use mathlib.Core.Bool.{Bool, true, false, cond}
 use native.Mathlib.Omega.{arith}
-use native.Mathlib.Decide.{decLt}
 use native.Mathlib.Nat.{add-zero}
 use lib.Dec.{eqb}
 use lib.ListN.{length, getD, take, drop, length-append, List·getD-append}
@@ -12,7 +11,7 @@ use lib.Seq.{take-at, drop-at, getD-at, getD-append-add}
 use borrow.Author.Tests.{le-ltb, eq-eqb, ne-eqb}
 use Rattle.lists.specs.Bytes.{wordAt}
 use Rattle.lists.specs.Places.{repeats, row, joined}
-use Rattle.lists.proofs.Places.{Agree, row-agree}
+use Rattle.lists.proofs.Places.{Agree, row-agree, joined-at}
 use Rattle.address.specs.declared.Address.{Address}
 use Rattle.address.specs.Address.{inRange, sameAddress, packOf, unpackAt, zeroAddress}
 use Rattle.address.proofs.Laws.{undo}
@@ -23,22 +22,7 @@ use Rattle.envelope.specs.Refusal.{outOfRange, frameRefusal, valueRefusal, valu
 use Rattle.envelope.specs.Read.{readOf, contentsOf, destinationsOf}
 use Rattle.envelope.proofs.Laws.{values-agree, Valued, valued, outside-false, Ranged, ranged, version-small, read-whole, contents-taken, destinations-taken}
 use Rattle.envelope_write.specs.Write.{headOf, midOf, bodyOf, bytesOf, carried}
-use Rattle.envelope_write.proofs.Laws.{length-head, length-mid, length-packs, length-body, length-bytes}
-
--- the bytes of the address at a place
-packs-at : (d : ℕ → Address) (n i k : ℕ) → i < n → k < 3 → (rest : List ℕ) → getD (joined packOf d n ++ rest) (3 * i + k) 0 ≡ getD (packOf (d i)) k 0
-unfolding joined
-packs-at d zero i k h hk rest = absurd (omega arith)
-packs-at d (suc n) i k h hk rest = go (decLt i n) (λ l. packs-at d n i k l hk (packOf (d n) ++ rest))
-  where
-    go : Dec (i < n) → (i < n → getD (joined packOf d n ++ (packOf (d n) ++ rest)) (3 * i + k) 0 ≡ getD (packOf (d i)) k 0)
-        → getD (joined packOf d n ++ packOf (d n) ++ rest) (3 * i + k) 0 ≡ getD (packOf (d i)) k 0
-    go (yes l) ih = rw append-assoc (ih l)
-    go (no l) ih =
-        let q : i ≡ n = omega arith in
-        let s : 3 * i + k ≡ length (joined packOf d n) + k = omega (arith, length-packs d n) in
-        rw (append-assoc, s, getD-append-add, List·getD-append (packOf (d n)) rest 0 k hk)
-        (ap (λ (j : ℕ). getD (packOf (d j)) k 0) (sym q))
+use Rattle.envelope_write.proofs.Laws.{length-pack, length-head, length-mid, length-packs, length-body, length-bytes}
 
 -- an address is read from its three bytes, wherever they stand
 unpack-back : (a : Address) (l : List ℕ) (at : ℕ) → inRange a ≡ true
@@ -109,9 +93,9 @@ module _ (e : Fixed) (d : ℕ → Address) (l : List ℕ) (z : valuesRefusal e (
       let p : List ℕ = joined packOf d (e .count) ++ after-packs in
       rw part-back
       (unpack-back (d i) p (3 * i) (r .destination-in i h)
-      (ap (λ (k : ℕ). getD p k 0) (sym (add-zero (3 * i))) ∙ packs-at d (e .count) i 0 h (omega arith) after-packs)
-      (packs-at d (e .count) i 1 h (omega arith) after-packs)
-      (packs-at d (e .count) i 2 h (omega arith) after-packs))
+      (ap (λ (k : ℕ). getD p k 0) (sym (add-zero (3 * i))) ∙ joined-at packOf 3 length-pack d (e .count) i 0 h (omega arith) after-packs)
+      (joined-at packOf 3 length-pack d (e .count) i 1 h (omega arith) after-packs)
+      (joined-at packOf 3 length-pack d (e .count) i 2 h (omega arith) after-packs))
 
   -- the fields after them
   front : List ℕ

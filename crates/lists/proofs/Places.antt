@@ -1,6 +1,6 @@
 -- `anyBelow`, `repeats`, `firsts`, `row` and `joined`, one place more at a time, and of two ways to give the values that agree.
 use Prim.Native.Nat.{ℕ, zero, suc, _+_, _*_, _-_, _<_, _≤_}
-use mathlib.Core.Path.{_≡_, refl, sym, _∙_}
+use mathlib.Core.Path.{_≡_, refl, sym, ap, _∙_}
 use mathlib.Core.Bool.{Bool, true, false, _||_}
 use mathlib.Core.List.{List, [], _∷_, _++_, append-assoc, append-nil}
 use native.Mathlib.Omega.{arith}
@@ -161,3 +161,19 @@ module _ {A : Type 0} where
   joined-padded f w z d d' n a p q zero = rw (add-zero, joined-agree f d' d n a, mul-zero, append-nil)
   joined-padded f w z d d' n a p q (suc k) =
       rw (add-suc, p k, q, joined-padded f w z d d' n a p q k, append-assoc, replicate-append-replicate, mul-suc)
+
+  -- what stands where in a row of things of w bytes each
+  pub joined-at : (f : A → List ℕ) (w : ℕ) → ((x : A) → length (f x) ≡ w) → (d : ℕ → A) (n i k : ℕ) → i < n → k < w → (rest : List ℕ)
+      → getD (joined f d n ++ rest) (w * i + k) 0 ≡ getD (f (d i)) k 0
+  unfolding joined
+  joined-at f w h d zero i k l m rest = absurd (omega arith)
+  joined-at f w h d (suc n) i k l m rest = go (decLt i n) (λ q. joined-at f w h d n i k q m (f (d n) ++ rest))
+    where
+      go : Dec (i < n) → (i < n → getD (joined f d n ++ (f (d n) ++ rest)) (w * i + k) 0 ≡ getD (f (d i)) k 0)
+          → getD (joined f d n ++ f (d n) ++ rest) (w * i + k) 0 ≡ getD (f (d i)) k 0
+      go (yes q) ih = rw append-assoc (ih q)
+      go (no q) ih =
+          let e : i ≡ n = omega arith in
+          let s : w * i + k ≡ length (joined f d n) + k = rw (e, length-joined f w h d n) refl in
+          rw (append-assoc, s, getD-append-add, List·getD-append (f (d n)) rest 0 k (rw (h (d n)) m))
+          (ap (λ (j : ℕ). getD (f (d j)) k 0) (sym e))

@@ -1,11 +1,11 @@
 -- `envelope::frame_contents` meets its contract: the fields that the reader gave say where the contents are.
+use Rattle.envelope.proofs.Laws.{contents-cut, contents-begin, Opened, read-envelope, read-refused, accepted, contents-refused, contents-at-refused}
+use Prim.Native.Nat.{ℕ, _+_}
 use mathlib.Core.Path.{_≡_, refl, sym, _∙_, ap}
-use Prim.Native.Nat.{_+_, _*_}
-use native.Mathlib.Nat.{zero-add, add-sub-cancel-left}
+use native.Mathlib.Nat.{zero-add}
 use Rattle.envelope.specs.declared.Fixed.{Fixed}
-use Rattle.envelope.specs.Frame.{countOf, lengthOf, fieldsOf}
+use Rattle.envelope.specs.Frame.{fieldsOf}
 use Rattle.envelope.specs.Refusal.{refusalOf}
-use Rattle.envelope.proofs.Laws.{Opened, read-envelope, read-refused, accepted, contents-refused, contents-at-refused, contents-taken, contents-at-taken}
 use native.Mathlib.Omega.{arith}
 use borrow.Author.Needs.{needs}
 use Rattle.envelope.proofs.frame_contents.Statement.{statement}
@@ -62,13 +62,9 @@ part-result-end c =
     omega (arith, accepted f (o .none) .frame .sized, ap (λ (x : Fixed). x .count) (o .same), ap (λ (x : Fixed). x .length) (o .same))
 
 returns-2 : tie.Need-returns-2
-unfolding fieldsOf
 returns-2 c =
-    let f = c .before .before .before .before .before .before .before .before .args .frame .now in
-    let o = opened (c .before .before .before .before) in (
-      rw (o .same, add-sub-cancel-left (9 + 3 * countOf f) (lengthOf f), contents-taken f (o .none)),
-      (refl, rw (contents-at-taken f (o .none), o .same)),
-    )
+    let o = opened (c .before .before .before .before) in
+    (contents-cut _ _ o, (refl, ap (λ (n : ℕ). n + c .before .before .before .before .before .before .before .before .args .frame .ptr .1) (contents-begin _ _ o)))
 
 pub frame-contents-spec : {M : Type 1} → statement M
 frame-contents-spec =

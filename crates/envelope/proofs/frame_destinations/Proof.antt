@@ -1,9 +1,9 @@
 -- `envelope::frame_destinations` meets its contract: the destination reader sees the part from the sixth byte on.
+use Rattle.envelope.proofs.Laws.{destinations-cut, Opened, read-envelope, read-refused, accepted, count-le, destinations-refused}
 use mathlib.Core.Path.{_≡_, sym, _∙_, ap}
 use Rattle.envelope.specs.declared.Fixed.{Fixed}
 use Rattle.envelope.specs.Frame.{countOf, fieldsOf}
 use Rattle.envelope.specs.Refusal.{refusalOf}
-use Rattle.envelope.proofs.Laws.{Opened, read-envelope, read-refused, accepted, count-le, part-from, destinations-refused, destinations-taken}
 use native.Mathlib.Omega.{arith}
 use borrow.Author.Needs.{needs}
 use Rattle.envelope.proofs.frame_destinations.Statement.{statement}
@@ -51,11 +51,7 @@ read-places-requires c κs =
     omega (arith, count-le f)
 
 returns-2 : tie.Need-returns-2
-unfolding fieldsOf
-returns-2 c =
-    let f = c .before .before .before .before .before .before .before .args .frame .now in
-    let o = opened (c .before .before .before) in
-    rw (c .read-places .ensures, o .same, part-from 5 f, destinations-taken f (o .none))
+returns-2 c = destinations-cut _ _ (opened (c .before .before .before)) (c .read-places .ensures)
 
 pub frame-destinations-spec : {M : Type 1} → statement M
 frame-destinations-spec =

@@ -1,0 +1,25 @@
+# Sourced: how programs for x86-64 are built and run here. Compiled Rattle is x86-64, so on an Arm machine C and Rust are cross-built and emulated.
+cc=(gcc)
+rust=(rustc -C linker=gcc)
+emulate=()
+if [ "$(uname -m)" = aarch64 ]; then
+    cc=(x86_64-linux-gnu-gcc -static)
+    rust=(/usr/bin/rustc --target x86_64-unknown-linux-gnu
+        -C linker=x86_64-linux-gnu-gcc -C target-feature=+crt-static)
+    emulate=(qemu-x86_64)
+fi
+
+# Builds the library's archive into a folder; what rt says is shown only where it fails.
+build_archive() {
+    mkdir -p "$1"
+    if ! rt staticlib door >"$1/staticlib.log" 2>&1; then
+        cat "$1/staticlib.log" >&2
+        return 1
+    fi
+    cp target/staticlib/libdoor.a "$1/libdoor.a"
+}
+
+# Builds a program of examples/ over the archive in a folder.
+build_example() {
+    "${cc[@]}" -std=c11 -O2 -Wall -Wextra -Werror -Iinclude -o "$1/$2" "examples/$2.c" "$1/libdoor.a"
+}
