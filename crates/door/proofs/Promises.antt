@@ -21,7 +21,9 @@ use Rattle.envelope.specs.Refusal.{outOfRange, valueRefusal, refusalOf}
 use Rattle.envelope.specs.Read.{contentsOf, contentsAt, destinationsOf}
 use Rattle.envelope.proofs.Laws.{read-whole, count-le}
 use Rattle.envelope_write.specs.Write.{headOf, midOf, bodyOf, bytesOf, writeRefusal, afterOf, carried}
+use Rattle.envelope_write.specs.Promises.{WriteUndoesRead as FrameAgain}
 use Rattle.envelope_write.proofs.Laws.{write-agree, after-agree, wrote}
+use Rattle.envelope_write.proofs.Promises.{write-undoes-read as frame-undoes}
 use Rattle.door.specs.Address.{addressBytes, addressIn}
 use Rattle.door.specs.Envelope.{fieldBytes, envelopeImage, readNumberFor, imageAfter, fieldsIn, destinationIn}
 use Rattle.door.specs.Promises.{WriteUndoesRead}
