@@ -4,7 +4,7 @@ use mathlib.Core.Path.{_≡_, refl, sym, ap, _∙_}
 use mathlib.Core.Bool.{Bool, true, false}
 use mathlib.Core.List.{List, [], _∷_, _++_}
 use native.Mathlib.Omega.{arith}
-use lib.Dec.{eqb}
+use lib.Dec.{leb, eqb}
 use lib.ListN.{getD}
 use borrow.Author.Tests.{leb-true, le-leb, eqb-true, eq-eqb}
 use Rattle.lists.specs.Bytes.{Bytes}
@@ -18,9 +18,17 @@ pub record Undo : Type 0 where
   pub written : (l : List ℕ) → Bytes l → (at : ℕ) → packOf (unpackAt l at) ≡ getD l at 0 ∷ getD l (at + 1) 0 ∷ getD l (at + 2) 0 ∷ []
 
 module _ (a : Address) (h : inRange a ≡ true) where
+  station : stationInRange (stationOf a) ≡ true
+  unfolding inRange
+  station = and-left _ _ h
+
+  pub brigade-le : a .brigade ≤ 255
+  unfolding stationInRange
+  brigade-le = leb-true _ _ (and-left _ _ station)
+
   pub node-le : a .node .0 ≤ 1023
-  unfolding inRange stationInRange
-  node-le = leb-true _ _ (and-left _ _ h)
+  unfolding stationInRange
+  node-le = leb-true _ _ (and-right (leb (a .brigade) 255) _ station)
 
   pub port-le : a .port .0 ≤ 63
   unfolding inRange
@@ -48,9 +56,10 @@ undo = record {
 pub unpack-ranged : (l : List ℕ) → Bytes l → (at : ℕ) → inRange (unpackAt l at) ≡ true
 unfolding inRange stationInRange
 unpack-ranged l b at =
+    let h0 = b at in
     let h1 = b (at + 1) in
     let h2 = b (at + 2) in
-    simp (le-leb (getD l (at + 1) 0 * 4 + getD l (at + 2) 0 / 64) 1023 (omega arith), le-leb (getD l (at + 2) 0 % 64) 63 (omega arith))
+    simp (le-leb (getD l at 0) 255 (omega arith), le-leb (getD l (at + 1) 0 * 4 + getD l (at + 2) 0 / 64) 1023 (omega arith), le-leb (getD l (at + 2) 0 % 64) 63 (omega arith))
 
 -- one address, one value
 pub same-eq : (a b : Address) → sameAddress a b ≡ true → a ≡ b
@@ -85,3 +94,7 @@ key-same a b ha hb = go (sameAddress a b) refl (eqb (keyOf a) (keyOf b)) refl
     go true p y q = sym (eq-eqb (keyOf a) (keyOf b) (ap keyOf (same-eq a b p))) ∙ q
     go false p true q = sym p ∙ ap (sameAddress a) (sym (key-eq a b ha hb (eqb-true (keyOf a) (keyOf b) q))) ∙ same-refl a
     go false p false q = refl
+
+-- the key of an address in range has 24 bits
+pub key-small : (a : Address) → inRange a ≡ true → keyOf a < 16777216
+key-small a h = omega (arith, brigade-le a h, node-le a h, port-le a h)

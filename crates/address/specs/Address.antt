@@ -7,7 +7,10 @@ use lib.ListN.{getD}
 use Rattle.address.specs.declared.Station.{Station}
 use Rattle.address.specs.declared.Address.{Address}
 
--- the ranges: a node number has 10 bits, a port number 6, a sequence number 15; a brigade is any byte
+-- the ranges: a brigade number has 8 bits, a node number 10, a port number 6, a sequence number 15
+abbrev pub largestBrigade : ℕ
+largestBrigade = 255
+
 abbrev pub largestNode : ℕ
 largestNode = 1023
 
@@ -21,11 +24,11 @@ largestSeq = 32767
 abbrev pub stationOf : Address → Station
 stationOf a = record { brigade = a .brigade; node = a .node }
 
--- the node is 0 to 1023
+-- the brigade is 0 to 255 and the node 0 to 1023
 unfoldable pub stationInRange : Station → Bool
-stationInRange s = leb (s .node .0) largestNode
+stationInRange s = leb (s .brigade) largestBrigade && leb (s .node .0) largestNode
 
--- the node is 0 to 1023 and the port 0 to 63
+-- the station is in range, and the port 0 to 63
 unfoldable pub inRange : Address → Bool
 inRange a = stationInRange (stationOf a) && leb (a .port .0) largestPort
 

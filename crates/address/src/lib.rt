@@ -4,6 +4,8 @@ ghost use mathlib.Core.Path.{_≡_};
 ghost use Prim.Native.Nat.{_+_, _*_, _/_};
 ghost use Rattle.address.specs.Address.{stationOf, stationInRange, inRange, sameStation, sameAddress, packOf, unpackAt, keyOf};
 
+pub const LARGEST_BRIGADE: u8 = 255;
+
 pub const LARGEST_NODE: u16 = 1023;
 
 pub const LARGEST_PORT: u8 = 63;
@@ -40,10 +42,13 @@ pub fn station_of(a: Address) -> Station
     }
 }
 
-// Whether the node is in range (every brigade is).
+// Whether the brigade and the node are in range. (Every byte is a brigade; the test costs nothing.)
 pub fn station_in_range(s: Station) -> bool
     ensures { λ r. ⌜ r ≡ stationInRange s ⌝ }
 {
+    if LARGEST_BRIGADE < s.brigade {
+        return false;
+    }
     s.node.0 <= LARGEST_NODE
 }
 

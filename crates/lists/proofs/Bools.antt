@@ -89,3 +89,9 @@ no-not false h = refl
 
 pub both-ways : {x : Bool} → x ≡ true → x ≡ false → ⊥
 both-ways p q = true≢false (sym p ∙ q)
+
+-- two tests that hold together are the same
+pub both-same : (x y : Bool) → (x ≡ true → y ≡ true) → (y ≡ true → x ≡ true) → x ≡ y
+both-same true y f g = sym (f refl)
+both-same false true f g = g refl
+both-same false false f g = refl

@@ -1,12 +1,21 @@
--- `address::station_in_range` meets its contract: the definition is the code's one test.
+-- `address::station_in_range` meets its contract: a brigade out of range decides, else the node.
 use Rattle.address.specs.Address.{stationInRange}
-use mathlib.Core.Path.{refl}
+use borrow.Author.Tests.{le-leb, lt-leb}
+use Rattle.lists.proofs.Bools.{stop1, go1}
+use native.Mathlib.Omega.{arith}
+use borrow.Author.Needs.{needs}
 use Rattle.address.proofs.station_in_range.Statement.{statement}
 use Rattle.address.proofs.station_in_range.Tie as tie
+use Rattle.address.proofs.station_in_range.Reads as reads
+use Rattle.address.proofs.station_in_range.Lts as lts
 
 returns : tie.Need-returns
 unfolding stationInRange
-returns c = refl
+returns c = stop1 _ (lt-leb _ _ (c .if1 .taken))
+
+returns-2 : tie.Need-returns-2
+unfolding stationInRange
+returns-2 c = go1 (le-leb _ _ (c .before .if1 .left))
 
 pub station-in-range-spec : {M : Type 1} → statement M
-station-in-range-spec = tie.close (tie.spec returns)
+station-in-range-spec = tie.close (tie.spec returns returns-2)

@@ -1,0 +1,137 @@
+-- Laws of the ledger's rules: what an obedient ledger is, and that legs alike are legs with the same key.
+use Prim.Native.Nat.{ℕ, zero, suc, _+_, _*_, _<_, _≤_}
+use mathlib.Core.Path.{_≡_, refl, sym, ap, _∙_}
+use mathlib.Core.Bool.{Bool, true, false, not, _&&_, cond}
+use mathlib.Core.List.{List}
+use native.Mathlib.Omega.{arith}
+use lib.Dec.{leb, ltb, eqb}
+use borrow.Author.Tests.{leb-true, ltb-true, eqb-true, eqb-false, eq-eqb, ne-eqb, le-leb, lt-leb, not-true, not-false}
+use Rattle.lists.specs.Places.{anyBelow, sameAt, repeatAt, repeats, elementAt, row}
+use Rattle.lists.proofs.Bools.{and-left, and-right, and-both, both-same}
+use Rattle.lists.proofs.Places.{any-agree, any-never, any-false, repeats-agree, row-at}
+use Rattle.address.specs.declared.Address.{Address}
+use Rattle.address.specs.Address.{inRange, sameAddress, keyOf}
+use Rattle.address.proofs.Laws.{key-same, key-small}
+use Rattle.ledger.specs.declared.Standing.{Standing}
+use Rattle.ledger.specs.declared.Standing.the-variants.{Open, Acknowledged, Refused, Undeliverable, TimedOut}
+use Rattle.ledger.specs.declared.Leg.{Leg}
+use Rattle.ledger.specs.declared.Ledger.{Ledger}
+use Rattle.ledger.specs.Rules.{legAt, isOpen, openLeg, alike, ticksRight, legRight, wrongAt, obeys}
+use Rattle.ledger.specs.Keys.{legKey, legKeyAt, sameKey}
+
+-- ---- a leg that is right
+
+pub record Right (g : Leg) : Type 0 where
+  pub ticks : ticksRight g ≡ true
+  pub source : inRange (g .source) ≡ true
+  pub destination : inRange (g .destination) ≡ true
+  pub seq : g .seq .0 ≤ 32767
+
+pub right : (g : Leg) → legRight g ≡ true → Right g
+unfolding legRight
+right g h =
+    let p = and-left (ticksRight g && inRange (g .source) && inRange (g .destination)) _ h in
+    let q = and-left (ticksRight g && inRange (g .source)) _ p in
+    record {
+      ticks = and-left (ticksRight g) _ q;
+      source = and-right (ticksRight g) _ q;
+      destination = and-right (ticksRight g && inRange (g .source)) _ p;
+      seq = leb-true _ _ (and-right (ticksRight g && inRange (g .source) && inRange (g .destination)) _ h);
+    }
+
+-- ---- legs alike have the same key
+
+-- three numbers packed into one are equal exactly if it is
+packed : (a b c a' b' c' : ℕ) → b < 16777216 → b' < 16777216 → c ≤ 32767 → c' ≤ 32767
+    → (eqb a' a && eqb b' b && eqb c' c) ≡ eqb (a * 549755813888 + b * 32768 + c + 1) (a' * 549755813888 + b' * 32768 + c' + 1)
+packed a b c a' b' c' hb hb' hc hc' =
+    both-same (eqb a' a && eqb b' b && eqb c' c) (eqb (a * 549755813888 + b * 32768 + c + 1) (a' * 549755813888 + b' * 32768 + c' + 1))
+    (λ h.
+      let p = eqb-true a' a (and-left _ _ (and-left _ _ h)) in
+      let q = eqb-true b' b (and-right (eqb a' a) _ (and-left _ _ h)) in
+      let r = eqb-true c' c (and-right (eqb a' a && eqb b' b) _ h) in
+      eq-eqb (a * 549755813888 + b * 32768 + c + 1) (a' * 549755813888 + b' * 32768 + c' + 1) (omega arith))
+    (λ h.
+      let e : a * 549755813888 + b * 32768 + c + 1 ≡ a' * 549755813888 + b' * 32768 + c' + 1 = eqb-true _ _ h in
+      let p : a' ≡ a = omega arith in
+      let q : b' ≡ b = omega arith in
+      let r : c' ≡ c = omega arith in
+      and-both (and-both (eq-eqb a' a p) (eq-eqb b' b q)) (eq-eqb c' c r))
+
+-- a key is 0 exactly where the leg is settled
+open-keys : (x y p q r : Bool) (k m : ℕ) → (p && q && r) ≡ eqb (k + 1) (m + 1)
+    → (x && (y && p && q && r)) ≡ (not (eqb (cond x (k + 1) 0) 0) && eqb (cond x (k + 1) 0) (cond y (m + 1) 0))
+open-keys false y p q r k m e = refl
+open-keys true false p q r k m e = rw (ne-eqb (k + 1) 0 (omega arith))
+open-keys true true p q r k m e = rw (ne-eqb (k + 1) 0 (omega arith)) e
+
+pub alike-key : (g h : Leg) → legRight g ≡ true → legRight h ≡ true → alike g h ≡ sameKey (legKey g) (legKey h)
+unfolding alike openLeg sameKey
+alike-key g h rg rh =
+    let a = right g rg in
+    let b = right h rh in
+    rw (
+      key-same (h .source) (g .source) (b .source) (a .source),
+      key-same (h .destination) (g .destination) (b .destination) (a .destination),
+    )
+    (open-keys (isOpen (g .standing)) (isOpen (h .standing)) _ _ _
+    (keyOf (g .source) * 549755813888 + keyOf (g .destination) * 32768 + g .seq .0)
+    (keyOf (h .source) * 549755813888 + keyOf (h .destination) * 32768 + h .seq .0)
+    (packed (keyOf (g .source)) (keyOf (g .destination)) (g .seq .0) (keyOf (h .source)) (keyOf (h .destination)) (h .seq .0)
+    (key-small (g .destination) (a .destination)) (key-small (h .destination) (b .destination)) (a .seq) (b .seq)))
+
+-- no leg is wrong: then legs alike are keys alike
+pub legs-right : (l : Ledger) → anyBelow (wrongAt l) (l .count) ≡ false → (i : ℕ) → i < l .count → legRight (legAt l i) ≡ true
+unfolding wrongAt
+legs-right l h i k = not-false _ (any-false (wrongAt l) (l .count) i h k)
+
+pub alike-keys : (l : Ledger) → anyBelow (wrongAt l) (l .count) ≡ false → {keys : List ℕ} → keys ≡ row 128 0 (legKeyAt l) (l .count)
+    → repeats sameKey (elementAt 0 keys) (l .count) ≡ repeats alike (legAt l) (l .count)
+unfolding legKeyAt
+alike-keys l h {keys} e =
+    rw e
+    (repeats-agree sameKey alike (elementAt 0 (row 128 0 (legKeyAt l) (l .count))) (legAt l) (l .count) (λ i j hi hj.
+      ap (λ (k : ℕ). sameKey k (elementAt 0 (row 128 0 (legKeyAt l) (l .count)) j)) (sym (row-at 128 0 (legKeyAt l) (l .count) i hi))
+      ∙ ap (sameKey (legKey (legAt l i))) (sym (row-at 128 0 (legKeyAt l) (l .count) j hj))
+      ∙ sym (alike-key (legAt l i) (legAt l j) (legs-right l h i hi) (legs-right l h j hj))))
+
+-- the search for a key: none is that of a settled leg
+module _ (d : ℕ → ℕ) (i : ℕ) where
+  pub settled-unseen : d i ≡ 0 → false ≡ repeatAt sameKey d i
+  unfolding repeatAt sameAt sameKey
+  settled-unseen e = sym (any-never (sameAt sameKey d i) (λ j. rw e) i)
+
+  pub open-seen : (d i ≡ 0 → ⊥) → {b : Bool} → b ≡ anyBelow (sameAt eqb d i) i → b ≡ repeatAt sameKey d i
+  unfolding repeatAt sameAt sameKey
+  open-seen h e = e ∙ any-agree (sameAt eqb d i) (sameAt sameKey d i) i (λ j l. rw (ne-eqb (d i) 0 h))
+
+-- ---- whether a ledger obeys its rules
+
+module _ (l : Ledger) where
+  pub too-many : 128 < l .count → false ≡ obeys l
+  unfolding obeys
+  too-many h = rw (lt-leb (l .count) 128 h)
+
+  pub wrong-leg : l .count ≤ 128 → anyBelow (wrongAt l) (l .count) ≡ true → false ≡ obeys l
+  unfolding obeys
+  wrong-leg h w = rw (le-leb (l .count) 128 h, w)
+
+  pub by-alike : l .count ≤ 128 → anyBelow (wrongAt l) (l .count) ≡ false → {b : Bool} → b ≡ repeats alike (legAt l) (l .count) → not b ≡ obeys l
+  unfolding obeys
+  by-alike h w e = rw (le-leb (l .count) 128 h, w, e)
+
+-- an obedient ledger
+pub record Obedient (l : Ledger) : Type 0 where
+  pub few : l .count ≤ 128
+  pub each : (i : ℕ) → i < l .count → legRight (legAt l i) ≡ true
+  pub apart : repeats alike (legAt l) (l .count) ≡ false
+
+pub obedient : (l : Ledger) → obeys l ≡ true → Obedient l
+unfolding obeys
+obedient l h =
+    let p = and-left _ _ h in
+    record {
+      few = leb-true _ _ (and-left _ _ p);
+      each = legs-right l (not-true _ (and-right (leb (l .count) 128) _ p));
+      apart = not-true _ (and-right (leb (l .count) 128 && not (anyBelow (wrongAt l) (l .count))) _ h);
+    }

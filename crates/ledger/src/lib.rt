@@ -1,0 +1,55 @@
+// The ledger of legs: what a leg is, what a ledger holds, and whether it obeys its rules. The calls stand in `ledger_calls` and `accept`.
+use address::Address;
+use address::Node;
+use address::Port;
+use address::Seq;
+ghost use mathlib.Core.Path.{_≡_};
+ghost use Rattle.ledger.specs.Rules.{noLeg};
+
+mod keys;
+mod rules;
+
+pub use rules::MOST_LEGS;
+pub use rules::is_open;
+pub use rules::is_open_leg;
+pub use rules::obeys_rules;
+
+pub enum Standing {
+    Open,
+    Acknowledged,
+    Refused(u8, u8),
+    Undeliverable,
+    TimedOut,
+}
+
+pub struct Leg {
+    pub source: Address,
+    pub destination: Address,
+    pub seq: Seq,
+    pub ticks: u16,
+    pub standing: Standing,
+}
+
+// The first `count` places hold legs, oldest first.
+pub struct Ledger {
+    pub count: u8,
+    pub legs: [Leg; 128],
+}
+
+// What stands at a place with no leg.
+pub fn no_leg() -> Leg
+    ensures { λ r. ⌜ r ≡ noLeg ⌝ }
+{
+    let a = Address {
+        brigade: 0,
+        node: Node(0),
+        port: Port(0),
+    };
+    Leg {
+        source: a,
+        destination: a,
+        seq: Seq(0),
+        ticks: 0,
+        standing: Standing::Open,
+    }
+}

@@ -1,0 +1,103 @@
+// Whether a ledger obeys its rules.
+use crate::Ledger;
+use crate::Leg;
+use crate::Standing;
+use crate::keys::keys_of;
+use crate::keys::repeated;
+use address::Address;
+use address::LARGEST_SEQ;
+use address::Seq;
+ghost use mathlib.Core.Path.{_≡_};
+ghost use Prim.Native.Nat.{_≤_};
+ghost use Rattle.lists.specs.Places.{anyBelow};
+ghost use Rattle.ledger.specs.Rules.{isOpen, openLeg, ticksRight, legRight, wrongAt, obeys};
+
+pub const MOST_LEGS: u8 = 128;
+
+// Whether a standing is open.
+pub fn is_open(s: Standing) -> bool
+    ensures { λ r. ⌜ r ≡ isOpen s ⌝ }
+{
+    match s {
+        Standing::Open => true,
+        Standing::Acknowledged => false,
+        Standing::Refused(_, _) => false,
+        Standing::Undeliverable => false,
+        Standing::TimedOut => false,
+    }
+}
+
+// Whether the leg is open, and has this source, this destination and this sequence number.
+pub fn is_open_leg(g: Leg, source: Address, destination: Address, seq: Seq) -> bool
+    ensures { λ r. ⌜ r ≡ openLeg source destination seq g ⌝ }
+{
+    let s = g.standing;
+    if !is_open(s) {
+        return false;
+    }
+    if !address::same_address(g.source, source) {
+        return false;
+    }
+    if !address::same_address(g.destination, destination) {
+        return false;
+    }
+    g.seq.0 == seq.0
+}
+
+// Whether an open leg has ticks left, and a settled one none.
+fn ticks_right(g: Leg) -> bool
+    ensures { λ r. ⌜ r ≡ ticksRight g ⌝ }
+{
+    let s = g.standing;
+    if is_open(s) {
+        return 0 < g.ticks;
+    }
+    g.ticks == 0
+}
+
+// Whether its ticks, addresses and sequence number are right.
+fn leg_right(g: Leg) -> bool
+    ensures { λ r. ⌜ r ≡ legRight g ⌝ }
+{
+    if !ticks_right(g) {
+        return false;
+    }
+    if !address::in_range(g.source) {
+        return false;
+    }
+    if !address::in_range(g.destination) {
+        return false;
+    }
+    g.seq.0 <= LARGEST_SEQ
+}
+
+// Whether some leg is not right.
+fn any_wrong(l: Ledger) -> bool
+    requires { ⌜ l .count ≤ 128 ⌝ }
+    ensures { λ r. ⌜ r ≡ anyBelow (wrongAt l) (l .count) ⌝ }
+{
+    let n = l.count as usize;
+    let mut i: usize = 0;
+    while i < n {
+        let g = l.legs[i];
+        if !leg_right(g) {
+            return true;
+        }
+        i += 1;
+    }
+    false
+}
+
+// Whether the ledger obeys its rules.
+pub fn obeys_rules(l: Ledger) -> bool
+    ensures { λ r. ⌜ r ≡ obeys l ⌝ }
+{
+    if MOST_LEGS < l.count {
+        return false;
+    }
+    if any_wrong(l) {
+        return false;
+    }
+    let keys = keys_of(l);
+    !repeated(&keys, l.count as usize)
+}
