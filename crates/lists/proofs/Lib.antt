@@ -1,4 +1,5 @@
 pub mod Bools
 pub mod Places
 pub mod Stores
+pub mod Lists
 pub mod Refusals
