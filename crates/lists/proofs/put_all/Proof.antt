@@ -16,7 +16,7 @@ sub-room : tie.Need-sub-room
 sub-room c = search needs
 
 slice-aggregate-store-all : tie.Need-slice-aggregate-store-all
-slice-aggregate-store-all c = sym (length-take-le _ _ (omega arith))
+slice-aggregate-store-all c = sym (length-take-le (length (c .before .before .before .before .before .before .args .out .now) - c .before .before .before .before .before .before .args .at) (c .before .before .before .before .before .before .args .src .now) (omega arith))
 
 store-all-requires : tie.Need-store-all-requires
 store-all-requires c κs = rw (length-take-le (length (c .before .before .before .before .before .before .args .out .now) - c .before .before .before .before .before .before .args .at) (c .before .before .before .before .before .before .args .src .now) (omega arith)) (omega arith)
