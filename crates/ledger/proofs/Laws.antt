@@ -1,19 +1,16 @@
 -- Laws of the ledger's rules: what an obedient ledger is, and that legs alike are legs with the same key.
-use Prim.Native.Nat.{ℕ, zero, suc, _+_, _*_, _<_, _≤_}
+use Prim.Native.Nat.{ℕ, _+_, _*_, _<_, _≤_}
 use mathlib.Core.Path.{_≡_, refl, sym, ap, _∙_}
 use mathlib.Core.Bool.{Bool, true, false, not, _&&_, cond}
 use mathlib.Core.List.{List}
 use native.Mathlib.Omega.{arith}
-use lib.Dec.{leb, ltb, eqb}
-use borrow.Author.Tests.{leb-true, ltb-true, eqb-true, eqb-false, eq-eqb, ne-eqb, le-leb, lt-leb, not-true, not-false}
+use lib.Dec.{leb, eqb}
+use borrow.Author.Tests.{leb-true, eqb-true, eq-eqb, ne-eqb, le-leb, lt-leb, not-true, not-false}
 use Rattle.lists.specs.Places.{anyBelow, sameAt, repeatAt, repeats, elementAt, row}
 use Rattle.lists.proofs.Bools.{and-left, and-right, and-both, both-same}
 use Rattle.lists.proofs.Places.{any-agree, any-never, any-false, repeats-agree, row-at}
-use Rattle.address.specs.declared.Address.{Address}
-use Rattle.address.specs.Address.{inRange, sameAddress, keyOf}
+use Rattle.address.specs.Address.{inRange, keyOf}
 use Rattle.address.proofs.Laws.{key-same, key-small}
-use Rattle.ledger.specs.declared.Standing.{Standing}
-use Rattle.ledger.specs.declared.Standing.the-variants.{Open, Acknowledged, Refused, Undeliverable, TimedOut}
 use Rattle.ledger.specs.declared.Leg.{Leg}
 use Rattle.ledger.specs.declared.Ledger.{Ledger}
 use Rattle.ledger.specs.Rules.{legAt, isOpen, openLeg, alike, ticksRight, legRight, wrongAt, obeys}
@@ -47,16 +44,16 @@ packed : (a b c a' b' c' : ℕ) → b < 16777216 → b' < 16777216 → c ≤ 327
 packed a b c a' b' c' hb hb' hc hc' =
     both-same (eqb a' a && eqb b' b && eqb c' c) (eqb (a * 549755813888 + b * 32768 + c + 1) (a' * 549755813888 + b' * 32768 + c' + 1))
     (λ h.
-      let p = eqb-true a' a (and-left _ _ (and-left _ _ h)) in
-      let q = eqb-true b' b (and-right (eqb a' a) _ (and-left _ _ h)) in
-      let r = eqb-true c' c (and-right (eqb a' a && eqb b' b) _ h) in
-      eq-eqb (a * 549755813888 + b * 32768 + c + 1) (a' * 549755813888 + b' * 32768 + c' + 1) (omega arith))
+    let p = eqb-true a' a (and-left _ _ (and-left _ _ h)) in
+    let q = eqb-true b' b (and-right (eqb a' a) _ (and-left _ _ h)) in
+    let r = eqb-true c' c (and-right (eqb a' a && eqb b' b) _ h) in
+    eq-eqb (a * 549755813888 + b * 32768 + c + 1) (a' * 549755813888 + b' * 32768 + c' + 1) (omega arith))
     (λ h.
-      let e : a * 549755813888 + b * 32768 + c + 1 ≡ a' * 549755813888 + b' * 32768 + c' + 1 = eqb-true _ _ h in
-      let p : a' ≡ a = omega arith in
-      let q : b' ≡ b = omega arith in
-      let r : c' ≡ c = omega arith in
-      and-both (and-both (eq-eqb a' a p) (eq-eqb b' b q)) (eq-eqb c' c r))
+    let e : a * 549755813888 + b * 32768 + c + 1 ≡ a' * 549755813888 + b' * 32768 + c' + 1 = eqb-true _ _ h in
+    let p : a' ≡ a = omega arith in
+    let q : b' ≡ b = omega arith in
+    let r : c' ≡ c = omega arith in
+    and-both (and-both (eq-eqb a' a p) (eq-eqb b' b q)) (eq-eqb c' c r))
 
 -- a key is 0 exactly where the leg is settled
 open-keys : (x y p q r : Bool) (k m : ℕ) → (p && q && r) ≡ eqb (k + 1) (m + 1)
@@ -91,9 +88,9 @@ unfolding legKeyAt
 alike-keys l h {keys} e =
     rw e
     (repeats-agree sameKey alike (elementAt 0 (row 128 0 (legKeyAt l) (l .count))) (legAt l) (l .count) (λ i j hi hj.
-      ap (λ (k : ℕ). sameKey k (elementAt 0 (row 128 0 (legKeyAt l) (l .count)) j)) (sym (row-at 128 0 (legKeyAt l) (l .count) i hi))
-      ∙ ap (sameKey (legKey (legAt l i))) (sym (row-at 128 0 (legKeyAt l) (l .count) j hj))
-      ∙ sym (alike-key (legAt l i) (legAt l j) (legs-right l h i hi) (legs-right l h j hj))))
+    ap (λ (k : ℕ). sameKey k (elementAt 0 (row 128 0 (legKeyAt l) (l .count)) j)) (sym (row-at 128 0 (legKeyAt l) (l .count) i hi))
+    ∙ ap (sameKey (legKey (legAt l i))) (sym (row-at 128 0 (legKeyAt l) (l .count) j hj))
+    ∙ sym (alike-key (legAt l i) (legAt l j) (legs-right l h i hi) (legs-right l h j hj))))
 
 -- the search for a key: none is that of a settled leg
 module _ (d : ℕ → ℕ) (i : ℕ) where

@@ -1,5 +1,5 @@
 -- The keys of legs, one number for each, by which the code sees whether two open legs are alike.
-use Prim.Native.Nat.{ℕ, suc, _+_, _*_}
+use Prim.Native.Nat.{ℕ, _+_, _*_}
 use mathlib.Core.Bool.{Bool, _&&_, not, cond}
 use lib.Dec.{eqb}
 use Rattle.address.specs.Address.{keyOf}

@@ -16,12 +16,13 @@ module _ {A : Type 0} (p : A → Bool) where
   unfolding howMany
   many-none xs = refl
 
-  many-within : (xs : List A) → howMany p xs ≤ length xs
+  pub many-first : (n : ℕ) (xs : List A) → howMany p (take n xs) ≤ n
   unfolding howMany
-  many-within [] = omega arith
-  many-within (x ∷ xs) = go (p x) (many-within xs)
+  many-first zero xs = omega arith
+  many-first (suc n) [] = omega arith
+  many-first (suc n) (x ∷ xs) = go (p x) (many-first n xs)
     where
-      go : (b : Bool) {k n : ℕ} → k ≤ n → cond b (suc k) k ≤ suc n
+      go : (b : Bool) {k : ℕ} → k ≤ n → cond b (suc k) k ≤ suc n
       go true h = omega arith
       go false h = omega arith
 
@@ -33,9 +34,6 @@ module _ {A : Type 0} (p : A → Bool) where
       go : (b : Bool) (k m n : ℕ) → k ≡ m + n → cond b (suc k) k ≡ cond b (suc m) m + n
       go true k m n h = omega arith
       go false k m n h = omega arith
-
-  pub many-le : (xs : List A) (i : ℕ) → i ≤ length xs → howMany p (take i xs) ≤ i
-  many-le xs i h = omega (arith, many-within (take i xs), length-take-le i xs h)
 
   pub many-next : (xs : List A) (i : ℕ) (d : A) → i < length xs → howMany p (take i xs) + cond (p (getD xs i d)) 1 0 ≡ howMany p (take (i + 1) xs)
   unfolding howMany

@@ -98,6 +98,28 @@ first-found p (suc n) h = go (anyBelow p n) refl h (first-found p n)
         rw e (record { below = omega arith; passes = f .passes; none-before = f .none-before })
     go false e t ih = rw (e, t) (record { below = omega arith; passes = t; none-before = e })
 
+-- where none passes it is n, and whether it is below n says whether some place passes
+pub first-none : (p : ℕ → Bool) (n : ℕ) → anyBelow p n ≡ false → firstBelow p n ≡ n
+unfolding anyBelow firstBelow
+first-none p zero h = refl
+first-none p (suc n) h =
+    let q = or-neither-of (anyBelow p n) (p n) h in
+    rw (q .0, q .1)
+
+pub first-past : (p : ℕ → Bool) (n : ℕ) → n ≤ firstBelow p n → anyBelow p n ≡ false
+first-past p n h = go (anyBelow p n) refl
+  where
+    go : (b : Bool) → anyBelow p n ≡ b → anyBelow p n ≡ false
+    go true e = let f = first-found p n e in absurd (omega (arith, f .below))
+    go false e = e
+
+pub first-below : (p : ℕ → Bool) (n : ℕ) → firstBelow p n < n → anyBelow p n ≡ true
+first-below p n h = go (anyBelow p n) refl
+  where
+    go : (b : Bool) → anyBelow p n ≡ b → anyBelow p n ≡ true
+    go true e = e
+    go false e = let f = first-none p n e in absurd (omega arith)
+
 -- two tests that agree below n
 pub first-agree : (p p' : ℕ → Bool) (n : ℕ) → ((i : ℕ) → i < n → p i ≡ p' i) → firstBelow p n ≡ firstBelow p' n
 unfolding firstBelow

@@ -2,12 +2,8 @@
 use Rattle.address.specs.Address.{stationInRange}
 use borrow.Author.Tests.{le-leb, lt-leb}
 use Rattle.lists.proofs.Bools.{stop1, go1}
-use native.Mathlib.Omega.{arith}
-use borrow.Author.Needs.{needs}
 use Rattle.address.proofs.station_in_range.Statement.{statement}
 use Rattle.address.proofs.station_in_range.Tie as tie
-use Rattle.address.proofs.station_in_range.Reads as reads
-use Rattle.address.proofs.station_in_range.Lts as lts
 
 returns : tie.Need-returns
 unfolding stationInRange

@@ -9,9 +9,6 @@ use native.Mathlib.Omega.{arith}
 use borrow.Author.Needs.{needs}
 use Rattle.ledger.proofs.keys.keys_of.Statement.{statement}
 use Rattle.ledger.proofs.keys.keys_of.Tie as tie
-use Rattle.ledger.proofs.keys.keys_of.Reads as reads
-use Rattle.ledger.proofs.keys.keys_of.Lts as lts
-use Rattle.ledger.proofs.keys.leg_key.Reads as leg-key-reads
 
 abbrev Inv-loop : tie.InvT-loop
 Inv-loop l n keys₀ i₀ keys i =

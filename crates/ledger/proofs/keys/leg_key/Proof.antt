@@ -1,14 +1,8 @@
 -- `ledger::keys::leg_key` meets its contract: the standing decides, else the three numbers are packed.
-use mathlib.Core.Path.{_≡_}
 use Rattle.lists.proofs.Bools.{told-no, told-yes}
-use native.Mathlib.Omega.{arith}
 use borrow.Author.Needs.{needs}
 use Rattle.ledger.proofs.keys.leg_key.Statement.{statement}
 use Rattle.ledger.proofs.keys.leg_key.Tie as tie
-use Rattle.ledger.proofs.keys.leg_key.Reads as reads
-use Rattle.ledger.proofs.keys.leg_key.Lts as lts
-use Rattle.address.proofs.key.Reads as key-reads
-use Rattle.ledger.proofs.rules.is_open.Reads as is-open-reads
 
 is-open-requires : tie.Need-is-open-requires
 is-open-requires c κs = search needs

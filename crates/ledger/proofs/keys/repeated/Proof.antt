@@ -9,9 +9,6 @@ use native.Mathlib.Omega.{arith}
 use borrow.Author.Needs.{needs}
 use Rattle.ledger.proofs.keys.repeated.Statement.{statement}
 use Rattle.ledger.proofs.keys.repeated.Tie as tie
-use Rattle.ledger.proofs.keys.repeated.Reads as reads
-use Rattle.ledger.proofs.keys.repeated.Lts as lts
-use Rattle.ledger.proofs.keys.seen.Reads as seen-reads
 
 abbrev Inv-loop : tie.InvT-loop
 Inv-loop keys n i₀ i =

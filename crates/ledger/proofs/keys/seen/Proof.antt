@@ -4,15 +4,13 @@ use mathlib.Core.Path.{_≡_, sym, _∙_}
 use mathlib.Core.Logic.{⊎-elim}
 use lib.Dec.{eqb}
 use borrow.Author.Tests.{eq-eqb, ne-eqb}
-use Rattle.lists.specs.Places.{anyBelow, sameAt, repeatAt, elementAt}
+use Rattle.lists.specs.Places.{anyBelow, sameAt, elementAt}
 use Rattle.lists.proofs.Places.{any-none, any-met, any-unmet}
 use Rattle.ledger.proofs.Laws.{settled-unseen, open-seen}
 use native.Mathlib.Omega.{arith}
 use borrow.Author.Needs.{needs}
 use Rattle.ledger.proofs.keys.seen.Statement.{statement}
 use Rattle.ledger.proofs.keys.seen.Tie as tie
-use Rattle.ledger.proofs.keys.seen.Reads as reads
-use Rattle.ledger.proofs.keys.seen.Lts as lts
 
 abbrev Inv-loop : tie.InvT-loop
 Inv-loop keys i key found₀ j₀ found j =

@@ -10,9 +10,6 @@ use native.Mathlib.Omega.{arith}
 use borrow.Author.Needs.{needs}
 use Rattle.ledger.proofs.rules.any_wrong.Statement.{statement}
 use Rattle.ledger.proofs.rules.any_wrong.Tie as tie
-use Rattle.ledger.proofs.rules.any_wrong.Reads as reads
-use Rattle.ledger.proofs.rules.any_wrong.Lts as lts
-use Rattle.ledger.proofs.rules.leg_right.Reads as leg-right-reads
 
 abbrev Inv-loop : tie.InvT-loop
 Inv-loop l n i₀ i =

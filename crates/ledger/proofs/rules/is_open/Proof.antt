@@ -1,11 +1,8 @@
 -- `ledger::rules::is_open` meets its contract: by cases on the standing.
 use Rattle.ledger.specs.Rules.{isOpen}
-use native.Mathlib.Omega.{arith}
 use borrow.Author.Needs.{needs}
 use Rattle.ledger.proofs.rules.is_open.Statement.{statement}
 use Rattle.ledger.proofs.rules.is_open.Tie as tie
-use Rattle.ledger.proofs.rules.is_open.Reads as reads
-use Rattle.ledger.proofs.rules.is_open.Lts as lts
 
 enum-told : tie.Need-enum-told
 enum-told c = search needs

@@ -1,15 +1,9 @@
 -- `ledger::rules::is_open_leg` meets its contract: the first test that fails decides, else the sequence number.
-use mathlib.Core.Path.{_≡_}
 use Rattle.lists.proofs.Bools.{told-no, told-yes}
 use Rattle.ledger.specs.Rules.{openLeg}
-use native.Mathlib.Omega.{arith}
 use borrow.Author.Needs.{needs}
 use Rattle.ledger.proofs.rules.is_open_leg.Statement.{statement}
 use Rattle.ledger.proofs.rules.is_open_leg.Tie as tie
-use Rattle.ledger.proofs.rules.is_open_leg.Reads as reads
-use Rattle.ledger.proofs.rules.is_open_leg.Lts as lts
-use Rattle.address.proofs.same_address.Reads as same-address-reads
-use Rattle.ledger.proofs.rules.is_open.Reads as is-open-reads
 
 is-open-requires : tie.Need-is-open-requires
 is-open-requires c κs = search needs

@@ -1,15 +1,9 @@
 -- `ledger::rules::leg_right` meets its contract: the first test that fails decides, else the sequence number.
-use mathlib.Core.Path.{_≡_}
 use Rattle.lists.proofs.Bools.{told-no, told-yes}
 use Rattle.ledger.specs.Rules.{legRight}
-use native.Mathlib.Omega.{arith}
 use borrow.Author.Needs.{needs}
 use Rattle.ledger.proofs.rules.leg_right.Statement.{statement}
 use Rattle.ledger.proofs.rules.leg_right.Tie as tie
-use Rattle.ledger.proofs.rules.leg_right.Reads as reads
-use Rattle.ledger.proofs.rules.leg_right.Lts as lts
-use Rattle.address.proofs.in_range.Reads as in-range-reads
-use Rattle.ledger.proofs.rules.ticks_right.Reads as ticks-right-reads
 
 ticks-right-requires : tie.Need-ticks-right-requires
 ticks-right-requires c κs = search needs

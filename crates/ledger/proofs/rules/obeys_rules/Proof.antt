@@ -1,15 +1,9 @@
 -- `ledger::rules::obeys_rules` meets its contract: the count decides, then the legs one by one, else their keys.
-use mathlib.Core.Path.{_≡_, sym, _∙_}
+use mathlib.Core.Path.{sym, _∙_}
 use Rattle.ledger.proofs.Laws.{alike-keys, too-many, wrong-leg, by-alike}
-use native.Mathlib.Omega.{arith}
 use borrow.Author.Needs.{needs}
 use Rattle.ledger.proofs.rules.obeys_rules.Statement.{statement}
 use Rattle.ledger.proofs.rules.obeys_rules.Tie as tie
-use Rattle.ledger.proofs.rules.obeys_rules.Reads as reads
-use Rattle.ledger.proofs.rules.obeys_rules.Lts as lts
-use Rattle.ledger.proofs.keys.keys_of.Reads as keys-of-reads
-use Rattle.ledger.proofs.keys.repeated.Reads as repeated-reads
-use Rattle.ledger.proofs.rules.any_wrong.Reads as any-wrong-reads
 
 returns : tie.Need-returns
 returns c = too-many (c .before .before .args .l) (c .if1 .taken)

@@ -1,13 +1,8 @@
 -- `ledger::rules::ticks_right` meets its contract: the standing says which test.
-use mathlib.Core.Path.{sym, _∙_}
 use Rattle.ledger.specs.Rules.{ticksRight}
-use native.Mathlib.Omega.{arith}
 use borrow.Author.Needs.{needs}
 use Rattle.ledger.proofs.rules.ticks_right.Statement.{statement}
 use Rattle.ledger.proofs.rules.ticks_right.Tie as tie
-use Rattle.ledger.proofs.rules.ticks_right.Reads as reads
-use Rattle.ledger.proofs.rules.ticks_right.Lts as lts
-use Rattle.ledger.proofs.rules.is_open.Reads as is-open-reads
 
 is-open-requires : tie.Need-is-open-requires
 is-open-requires c κs = search needs
