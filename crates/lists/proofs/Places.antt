@@ -1,7 +1,7 @@
--- `anyBelow`, `repeats`, `firsts`, `row` and `joined`, one place more at a time, and of two ways to give the values that agree.
+-- `anyBelow`, `firstBelow`, `repeats`, `firsts`, `row` and `joined`, one place more at a time, and of two ways to give the values that agree.
 use Prim.Native.Nat.{ℕ, zero, suc, _+_, _*_, _-_, _<_, _≤_}
 use mathlib.Core.Path.{_≡_, refl, sym, _∙_}
-use mathlib.Core.Bool.{Bool, true, false, _||_}
+use mathlib.Core.Bool.{Bool, true, false, _||_, cond, true≢false}
 use mathlib.Core.List.{List, [], _∷_, _++_, append-assoc, append-nil}
 use native.Mathlib.Omega.{arith}
 use native.Mathlib.Numerals.{add-one}
@@ -9,7 +9,7 @@ use native.Mathlib.Nat.{add-zero, add-suc, mul-zero, mul-suc, sub-zero}
 use native.Mathlib.Decide.{decLt}
 use lib.ListN.{length, getD, set, replicate, length-append, length-replicate, replicate-append-replicate, List·getD-append}
 use lib.Seq.{getD-at, getD-append-add, set-at}
-use Rattle.lists.specs.Places.{anyBelow, sameAt, repeatAt, repeats, elementAt, firsts, row, joined}
+use Rattle.lists.specs.Places.{anyBelow, firstBelow, sameAt, repeatAt, repeats, elementAt, firsts, row, joined}
 use Rattle.lists.proofs.Bools.{or-right, or-none}
 
 -- ---- some place below n
@@ -65,6 +65,46 @@ unfolding anyBelow
 any-agree p p' zero h = refl
 any-agree p p' (suc n) h = rw (any-agree p p' n (λ i l. h i (omega arith)), h n (omega arith))
 
+-- ---- the first place below n
+
+-- the place k is below n and passes, and none before it does
+pub record FirstAt (p : ℕ → Bool) (n k : ℕ) : Type 0 where
+  pub below : k < n
+  pub passes : p k ≡ true
+  pub none-before : anyBelow p k ≡ false
+
+-- a search that stops at such a place has found `firstBelow`
+pub first-stop : (p : ℕ → Bool) (n k : ℕ) → FirstAt p n k → firstBelow p n ≡ k
+unfolding firstBelow
+first-stop p zero k f = absurd (omega arith)
+first-stop p (suc n) k f = go (decLt k n) (first-stop p n k)
+  where
+    go : Dec (k < n) → (FirstAt p n k → firstBelow p n ≡ k) → cond (anyBelow p n) (firstBelow p n) (cond (p n) n (suc n)) ≡ k
+    go (yes l) ih = rw (any-found p n k l (f .passes)) (ih (record { below = l; passes = f .passes; none-before = f .none-before }))
+    go (no l) ih =
+        let q : n ≡ k = omega arith in
+        rw (q, f .none-before, f .passes)
+
+-- where some place passes, `firstBelow` is such a place
+pub first-found : (p : ℕ → Bool) (n : ℕ) → anyBelow p n ≡ true → FirstAt p n (firstBelow p n)
+unfolding anyBelow firstBelow
+first-found p zero h = absurd (true≢false (sym h))
+first-found p (suc n) h = go (anyBelow p n) refl h (first-found p n)
+  where
+    go : (b : Bool) → anyBelow p n ≡ b → (b || p n) ≡ true → (anyBelow p n ≡ true → FirstAt p n (firstBelow p n))
+        → FirstAt p (suc n) (cond (anyBelow p n) (firstBelow p n) (cond (p n) n (suc n)))
+    go true e t ih =
+        let f = ih e in
+        rw e (record { below = omega arith; passes = f .passes; none-before = f .none-before })
+    go false e t ih = rw (e, t) (record { below = omega arith; passes = t; none-before = e })
+
+-- two tests that agree below n have the same first place
+pub first-agree : (p p' : ℕ → Bool) (n : ℕ) → ((i : ℕ) → i < n → p i ≡ p' i) → firstBelow p n ≡ firstBelow p' n
+unfolding firstBelow
+first-agree p p' zero h = refl
+first-agree p p' (suc n) h =
+    rw (any-agree p p' n (λ i l. h i (omega arith)), first-agree p p' n (λ i l. h i (omega arith)), h n (omega arith))
+
 -- two values are told apart alike, whatever they are and whatever tells them apart
 pub repeats-agree : {A B : Type 0} (same : A → A → Bool) (same' : B → B → Bool) (d : ℕ → A) (d' : ℕ → B) (n : ℕ)
     → ((i j : ℕ) → i < n → j < n → same (d i) (d j) ≡ same' (d' i) (d' j)) → repeats same d n ≡ repeats same' d' n
@@ -78,6 +118,13 @@ module _ {A : Type 0} where
   -- two ways to give the values below n agree
   abbrev pub Agree : (ℕ → A) → (ℕ → A) → ℕ → Type 0
   Agree d d' n = (i : ℕ) → i < n → d i ≡ d' i
+
+  -- a place of a list has its own value, whatever is taken to stand past the end
+  pub element-own : (z z' : A) (l : List A) (i : ℕ) → i < length l → getD l i z' ≡ elementAt z l i
+  unfolding elementAt
+  element-own z z' [] i h = absurd (omega arith)
+  element-own z z' (a ∷ l) zero h = refl
+  element-own z z' (a ∷ l) (suc i) h = element-own z z' l i (omega arith)
 
   pub length-firsts : (d : ℕ → A) (n : ℕ) → length (firsts d n) ≡ n
   unfolding firsts

@@ -1,5 +1,5 @@
 -- Values at the places 0, 1, 2, ..: tests over the first n of them, and lists made of them. Nothing here speaks of addresses or frames.
-use mathlib.Core.Bool.{Bool, false, _||_}
+use mathlib.Core.Bool.{Bool, false, _||_, cond}
 use mathlib.Core.List.{List, [], _∷_, _++_}
 use Prim.Native.Nat.{ℕ, zero, suc, _-_}
 use lib.ListN.{getD, replicate}
@@ -8,6 +8,11 @@ use lib.ListN.{getD, replicate}
 unfoldable pub anyBelow : (ℕ → Bool) → ℕ → Bool
 anyBelow p zero = false
 anyBelow p (suc n) = anyBelow p n || p n
+
+-- the first place below n where the test holds, or n
+unfoldable pub firstBelow : (ℕ → Bool) → ℕ → ℕ
+firstBelow p zero = zero
+firstBelow p (suc n) = cond (anyBelow p n) (firstBelow p n) (cond (p n) n (suc n))
 
 module _ {A : Type 0} (same : A → A → Bool) (d : ℕ → A) where
   -- the places i and j have the same value
