@@ -1,0 +1,86 @@
+// The next route (document 01): a node's routing table, and where a message for a destination goes from here.
+use address::Address;
+use address::LARGEST_PORT;
+use address::Node;
+use address::Port;
+use address::Station;
+use entries::way_out;
+ghost use mathlib.Core.Path.{_≡_};
+ghost use mathlib.Core.Bool.{false};
+ghost use Rattle.lists.specs.Refusals.{unlessRefused};
+ghost use Rattle.route.specs.Route.{ownStation, isOwn, chooseOf, choiceNumber, choiceLocal, choicePort, routeRefusal, wayPort};
+
+mod entries;
+mod ranges;
+
+pub use ranges::MOST_ENTRIES;
+pub use ranges::table_in_range;
+
+// The destinations that an entry serves: one node, a whole brigade, or everything.
+pub enum Target {
+    One(u8, Node),
+    Brigade(u8),
+    Everything,
+}
+
+pub struct Entry {
+    pub target: Target,
+    pub port: Port,
+    pub on: bool,
+}
+
+// The own brigade and node, and the entries in order. Those past the count are not looked at.
+pub struct Table {
+    pub brigade: u8,
+    pub node: Node,
+    pub count: u8,
+    pub entries: [Entry; 32],
+}
+
+// For this node at the port, or out by the port, or a refusal.
+pub enum Choice {
+    Local(Port),
+    Out(Port),
+    Refused(u8),
+}
+
+// The station whose table it is.
+fn own_station(t: Table) -> Station
+    ensures { λ r. ⌜ r ≡ ownStation t ⌝ }
+{
+    let n = t.node;
+    Station {
+        brigade: t.brigade,
+        node: n,
+    }
+}
+
+// Whether the destination is at the table's own station.
+fn is_own(t: Table, d: Address) -> bool
+    ensures { λ r. ⌜ r ≡ isOwn t d ⌝ }
+{
+    address::same_station(own_station(t), address::station_of(d))
+}
+
+// Where a message for the destination goes that came in by the arrival port (0: it began here), or 50, 51 or 52.
+pub fn choose(table: Table, destination: Address, arrival: Port) -> Choice
+    ensures { λ r. ⌜ r ≡ chooseOf table destination arrival ⌝ }
+    ensures number { λ r. ⌜ choiceNumber r ≡ routeRefusal table destination arrival ⌝ }
+    ensures local { λ r. ⌜ choiceLocal r ≡ unlessRefused (routeRefusal table destination arrival) (isOwn table destination) false ⌝ }
+    ensures port { λ r. ⌜ choicePort r ≡ unlessRefused (routeRefusal table destination arrival) (wayPort table destination arrival) 0 ⌝ }
+{
+    if !table_in_range(table) {
+        return Choice::Refused(50);
+    }
+    if !address::in_range(destination) {
+        return Choice::Refused(51);
+    }
+    if LARGEST_PORT < arrival.0 {
+        return Choice::Refused(51);
+    }
+    if is_own(table, destination) {
+        let p = destination.port;
+        return Choice::Local(p);
+    }
+    way_out(table, destination, arrival)
+}
