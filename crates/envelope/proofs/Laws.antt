@@ -68,7 +68,7 @@ pub destination-ranged : (part : List ℕ) → Bytes part → (i : ℕ) → inRa
 unfolding destinationAt
 destination-ranged part b i = unpack-ranged part b (3 * i)
 
-never-stray : (part : List ℕ) → Bytes part → (n : ℕ) → anyBelow (strayAt (destinationAt part)) n ≡ false
+pub never-stray : (part : List ℕ) → Bytes part → (n : ℕ) → anyBelow (strayAt (destinationAt part)) n ≡ false
 unfolding strayAt
 never-stray part b n = any-never (strayAt (destinationAt part)) (λ i. rw (destination-ranged part b i)) n
 

@@ -7,8 +7,8 @@ use native.Mathlib.Numerals.{add-one}
 use native.Mathlib.Nat.{zero-add, add-zero}
 use lib.ListN.{length, getD, take, drop, set, take-append-drop}
 use lib.Seq.{sets, sets-eq, length-sets, set-out, take-suc, take-at, length-take-le}
-use Rattle.lists.specs.Places.{joined}
-use Rattle.lists.proofs.Places.{length-joined, joined-next}
+use Rattle.lists.specs.Places.{firsts, joined}
+use Rattle.lists.proofs.Places.{length-firsts, length-joined, joined-next}
 
 module _ {A : Type 0} where
   -- a run of stores after another is one run
@@ -46,3 +46,8 @@ pub joined-stored : {A : Type 0} (f : A → List ℕ) (k : ℕ) → ((x : A) →
     → sets (sets l at (joined f d i)) (at + k * i) (f (d i)) ≡ sets l at (joined f d (i + 1))
 joined-stored f k w l at d i =
     rw (joined-next f d i) (sets-append (joined f d i) l at (f (d i)) (at + k * i) (rw (length-joined f k w d i) refl))
+
+-- values stored from a place on, one more
+pub firsts-stored : {A : Type 0} (l : List A) (at : ℕ) (d : ℕ → A) (i : ℕ) → set (sets l at (firsts d i)) (at + i) (d i) ≡ sets l at (firsts d (i + 1))
+unfolding firsts
+firsts-stored l at d i = rw add-one (sets-append (firsts d i) l at (d i ∷ []) (at + i) (rw (length-firsts d i) refl))
