@@ -127,3 +127,34 @@ module _ {A : Type 0} (l : List A) where
           store-next (without k (take (i + 1) l)) l i (getD l (i + 1) z) close-long m
           ∙ ap (λ (t : List A). t ++ drop (i + 1) l)
           (sym (ap (without k) (take-one-more l (i + 1) z n) ∙ without-snoc k (take (i + 1) l) (getD l (i + 1) z) (rw e (omega arith))))
+
+-- ---- what then stands where
+
+module _ {A : Type 0} (z : A) where
+  pub without-before : (k i : ℕ) (xs : List A) → i < k → getD (without k xs) i z ≡ getD xs i z
+  unfolding without
+  without-before zero i xs h = absurd (omega arith)
+  without-before (suc k) i [] h = refl
+  without-before (suc k) zero (x ∷ xs) h = refl
+  without-before (suc k) (suc i) (x ∷ xs) h = without-before k i xs (le-of-suc-le-suc h)
+
+  pub without-after : (k i : ℕ) (xs : List A) → k ≤ i → getD (without k xs) i z ≡ getD xs (suc i) z
+  unfolding without
+  without-after k i [] h = refl
+  without-after zero i (x ∷ xs) h = refl
+  without-after (suc k) zero (x ∷ xs) h = absurd (omega arith)
+  without-after (suc k) (suc i) (x ∷ xs) h = without-after k i xs (le-of-suc-le-suc h)
+
+  -- the first n elements changed by f, the others as they were
+  module _ (f : A → A) where
+    pub mapped-at : (n i : ℕ) (xs : List A) → i < n → n ≤ length xs → getD (map f (take n xs) ++ drop n xs) i z ≡ f (getD xs i z)
+    mapped-at zero i xs h k = absurd (omega arith)
+    mapped-at (suc n) i [] h k = absurd (omega arith)
+    mapped-at (suc n) zero (x ∷ xs) h k = refl
+    mapped-at (suc n) (suc i) (x ∷ xs) h k = mapped-at n i xs (le-of-suc-le-suc h) (le-of-suc-le-suc k)
+
+    pub mapped-past : (n i : ℕ) (xs : List A) → n ≤ i → n ≤ length xs → getD (map f (take n xs) ++ drop n xs) i z ≡ getD xs i z
+    mapped-past zero i xs h k = refl
+    mapped-past (suc n) i [] h k = absurd (omega arith)
+    mapped-past (suc n) zero (x ∷ xs) h k = absurd (omega arith)
+    mapped-past (suc n) (suc i) (x ∷ xs) h k = mapped-past n i xs (le-of-suc-le-suc h) (le-of-suc-le-suc k)

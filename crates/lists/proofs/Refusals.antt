@@ -27,3 +27,9 @@ module _ {A : Type 0} (x z : A) where
   unfolding unlessRefused
   refused zero h = absurd (h refl)
   refused (suc n) h = refl
+
+-- what is the same for both is so whatever the number
+pub either-way : {A B : Type 0} (g : A → B) (n : ℕ) {x z : A} → g x ≡ g z → g (unlessRefused n x z) ≡ g z
+unfolding unlessRefused
+either-way g zero e = e
+either-way g (suc n) e = refl

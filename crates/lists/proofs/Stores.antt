@@ -1,12 +1,12 @@
 -- Runs of stores, `lib.Seq.sets`: one after another, past the end, and what then stands where.
-use Prim.Native.Nat.{ℕ, suc, _+_, _*_, _<_, _≤_}
+use Prim.Native.Nat.{ℕ, zero, suc, _+_, _*_, _<_, _≤_}
 use mathlib.Core.Path.{_≡_, refl, sym, ap, _∙_}
 use mathlib.Core.List.{List, [], _∷_, _++_}
 use native.Mathlib.Omega.{arith}
 use native.Mathlib.Numerals.{add-one}
 use native.Mathlib.Nat.{zero-add, add-zero}
-use lib.ListN.{length, getD, take, drop, set, take-append-drop}
-use lib.Seq.{sets, sets-eq, length-sets, set-out, take-suc, take-at, length-take-le}
+use lib.ListN.{length, getD, take, drop, set, length-set, take-append-drop}
+use lib.Seq.{sets, sets-eq, length-sets, set-out, take-suc, take-at, length-take-le, getD-set-same, getD-set-other}
 use Rattle.lists.specs.Places.{firsts, joined}
 use Rattle.lists.proofs.Places.{length-firsts, length-joined, joined-next}
 
@@ -51,3 +51,20 @@ joined-stored f k w l at d i =
 pub firsts-stored : {A : Type 0} (l : List A) (at : ℕ) (d : ℕ → A) (i : ℕ) → set (sets l at (firsts d i)) (at + i) (d i) ≡ sets l at (firsts d (i + 1))
 unfolding firsts
 firsts-stored l at d i = rw add-one (sets-append (firsts d i) l at (d i ∷ []) (at + i) (rw (length-firsts d i) refl))
+
+-- what stands where after a run of stores
+module _ {A : Type 0} (z : A) where
+  pub sets-before : (vs l : List A) (i j : ℕ) → j < i → getD (sets l i vs) j z ≡ getD l j z
+  sets-before [] l i j h = refl
+  sets-before (a ∷ vs) l i j h = sets-before vs (set l i a) (suc i) j (omega arith) ∙ getD-set-other l i j a z (λ e. omega arith)
+
+  pub sets-after : (vs l : List A) (i j : ℕ) → i + length vs ≤ j → getD (sets l i vs) j z ≡ getD l j z
+  sets-after [] l i j h = refl
+  sets-after (a ∷ vs) l i j h = sets-after vs (set l i a) (suc i) j (omega arith) ∙ getD-set-other l i j a z (λ e. omega arith)
+
+  pub sets-within : (vs l : List A) (i k : ℕ) → k < length vs → i + length vs ≤ length l → getD (sets l i vs) (i + k) z ≡ getD vs k z
+  sets-within [] l i k h m = absurd (omega arith)
+  sets-within (a ∷ vs) l i zero h m = rw add-zero (sets-before vs (set l i a) (suc i) i (omega arith) ∙ getD-set-same l i a z (omega arith))
+  sets-within (a ∷ vs) l i (suc k) h m =
+      let e : i + suc k ≡ suc i + k = omega arith in
+      rw e (sets-within vs (set l i a) (suc i) k (omega arith) (rw length-set (omega arith)))

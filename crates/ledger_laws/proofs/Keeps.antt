@@ -1,0 +1,353 @@
+-- A ledger that keeps its rules keeps them after each call.
+use Prim.Native.Nat.{ℕ, suc, _+_, _-_, _<_, _≤_}
+use mathlib.Core.Path.{_≡_, refl, sym, ap, _∙_}
+use mathlib.Core.Bool.{Bool, true, false, cond}
+use mathlib.Core.List.{List}
+use native.Mathlib.Omega.{arith}
+use native.Mathlib.Decide.{decLt, ℕ-discrete}
+use lib.Dec.{leb, ltb}
+use lib.ListN.{drop}
+use borrow.Author.Tests.{ltb-true, ltb-false, lt-ltb, leb-false, eq-eqb}
+use Rattle.lists.specs.Places.{sameAt, repeatAt, repeats}
+use Rattle.lists.proofs.Bools.{and-both, both-ways}
+use Rattle.lists.proofs.Places.{any-false}
+use Rattle.address.specs.declared.Port.{Port}
+use Rattle.address.specs.declared.Seq.{Seq}
+use Rattle.address.specs.declared.Address.{Address}
+use Rattle.address.specs.Address.{inRange, sameAddress}
+use Rattle.address.proofs.Laws.{same-refl}
+use Rattle.envelope.specs.declared.Fixed.{Fixed}
+use Rattle.envelope.specs.Frame.{partAt, fieldsOf, destinationAt}
+use Rattle.envelope.proofs.Laws.{accepted, Ranged, ranged}
+use Rattle.route.specs.declared.Table.{Table}
+use Rattle.route.specs.Route.{chooseOf}
+use Rattle.ledger.specs.declared.Standing.the-variants.{Open, Undeliverable, TimedOut}
+use Rattle.ledger.specs.declared.Leg.{Leg}
+use Rattle.ledger.specs.declared.Ledger.{Ledger}
+use Rattle.ledger.specs.Rules.{legAt, isOpen, alike, ticksRight, legRight, obeys}
+use Rattle.ledger.proofs.Laws.{right, Obedient}
+use Rattle.ledger_calls.specs.declared.Reply.{Reply}
+use Rattle.ledger_calls.specs.declared.Reply.the-variants.{Ack, Nak}
+use Rattle.ledger_calls.specs.Answer.{standingFor, settled, withLeg, answeredPlace, answerNumber, answerOf}
+use Rattle.ledger_calls.specs.Tick.{ticked, tickedLedger, tickNumber, tickOf}
+use Rattle.ledger_calls.specs.Clear.{closeUp, clearNumber, clearOf}
+use Rattle.accept.specs.Accept.{openFrom, openFromAt, unrouted, legFor, legForAt, withLegs, acceptNumber, acceptOf}
+use Rattle.accept.proofs.Laws.{Roomy}
+use Rattle.ledger_laws.specs.Promises.{Whole}
+use Rattle.ledger_laws.proofs.Rules.{alike-is, is-alike, not-so, leg-right, apart-at, obeys-from}
+use Rattle.ledger_laws.proofs.Places.{answer-rules, answer-found, answer-after, answer-at, answer-other, tick-rules, tick-after, tick-at, clear-rules, clear-within, clear-after, clear-before, clear-moved, frame-taken, accept-call, accept-rules, accept-quiet-after, accept-room, accept-after, accept-before, accept-new}
+
+-- a leg that is not open is alike to none
+settled-first : (g h : Leg) → isOpen (g .standing) ≡ false → alike g h ≡ false
+unfolding alike
+settled-first g h e = rw e
+
+settled-second : (g h : Leg) → isOpen (h .standing) ≡ false → alike g h ≡ false
+settled-second g h e = not-so (alike g h) (isOpen (h .standing)) (λ a. alike-is g h a .second .is-open) e
+
+-- ---- answer
+
+reply-settles : (r : Reply) → isOpen (standingFor r) ≡ false
+unfolding standingFor isOpen
+reply-settles Ack = refl
+reply-settles (Nak set code) = refl
+
+settled-right : (r : Reply) (g : Leg) → legRight g ≡ true → legRight (settled r g) ≡ true
+unfolding settled ticksRight
+settled-right r g h =
+    let p = right g h in
+    leg-right (settled r g) (record { ticks = rw (reply-settles r) refl; source = p .source; destination = p .destination; seq = p .seq })
+
+settled-closed : (r : Reply) (g : Leg) → isOpen (settled r g .standing) ≡ false
+unfolding settled
+settled-closed r g = reply-settles r
+
+module _ (l : Ledger) (by to : Address) (seq : Seq) (reply : Reply) (whole : Whole l) (z : answerNumber l by to seq ≡ 0) where
+  abbrev after-answer : Ledger
+  after-answer = answerOf l by to seq reply .ledger
+
+  abbrev k : ℕ
+  k = answeredPlace l by to seq
+
+  same-count : after-answer .count ≡ l .count
+  unfolding withLeg
+  same-count = ap (λ (m : Ledger). m .count) (answer-after l by to seq reply whole z)
+
+  each : (i : ℕ) → i < l .count → legRight (legAt after-answer i) ≡ true
+  each i h = go (ℕ-discrete i k)
+    where
+      go : Dec (i ≡ k) → legRight (legAt after-answer i) ≡ true
+      go (yes e) = rw (e, answer-at l by to seq reply whole z) (settled-right reply (legAt l k) (answer-rules l by to seq reply whole z .each k (answer-found l by to seq reply whole z .below)))
+      go (no ne) = rw (answer-other l by to seq reply whole z i ne) (answer-rules l by to seq reply whole z .each i h)
+
+  apart : (i j : ℕ) → i < l .count → j < i → alike (legAt after-answer i) (legAt after-answer j) ≡ false
+  apart i j h m = go (ℕ-discrete i k) (ℕ-discrete j k)
+    where
+      go : Dec (i ≡ k) → Dec (j ≡ k) → alike (legAt after-answer i) (legAt after-answer j) ≡ false
+      go (yes e) d = settled-first (legAt after-answer i) (legAt after-answer j) (rw (e, answer-at l by to seq reply whole z) (settled-closed reply (legAt l k)))
+      go (no ne) (yes e) = settled-second (legAt after-answer i) (legAt after-answer j) (rw (e, answer-at l by to seq reply whole z) (settled-closed reply (legAt l k)))
+      go (no ne) (no me) =
+          rw (answer-other l by to seq reply whole z i ne, answer-other l by to seq reply whole z j me)
+          (apart-at l (answer-rules l by to seq reply whole z) i j h (omega arith) (λ e. omega arith))
+
+  pub answer-keeps : obeys after-answer ≡ true
+  answer-keeps =
+      obeys-from after-answer (rw same-count (answer-rules l by to seq reply whole z .few)) (λ i h. each i (rw same-count at h)) (λ i j h m. apart i j (rw same-count at h) m)
+
+-- ---- tick
+
+-- by the standing and the ticks left
+module _ {A : Type 0} (field : Leg → A) (g : Leg) where
+  ticked-field : field (record { source = g .source; destination = g .destination; seq = g .seq; ticks = 0; standing = TimedOut }) ≡ field g
+      → field (record { source = g .source; destination = g .destination; seq = g .seq; ticks = g .ticks - 1; standing = g .standing }) ≡ field g → field (ticked g) ≡ field g
+  unfolding ticked
+  ticked-field a b = go (isOpen (g .standing)) (leb (g .ticks) 1)
+    where
+      go : (x y : Bool)
+          → field (cond x (cond y (record { source = g .source; destination = g .destination; seq = g .seq; ticks = 0; standing = TimedOut }) (record { source = g .source; destination = g .destination; seq = g .seq; ticks = g .ticks - 1; standing = g .standing })) g) ≡ field g
+      go true true = a
+      go true false = b
+      go false y = refl
+
+-- a leg that is open after a tick was open before it
+still : (g : Leg) → isOpen (ticked g .standing) ≡ true → isOpen (g .standing) ≡ true
+unfolding ticked
+still g h = go (isOpen (g .standing)) refl h
+  where
+    go : (x : Bool) → isOpen (g .standing) ≡ x → isOpen (cond x (cond (leb (g .ticks) 1) (record { source = g .source; destination = g .destination; seq = g .seq; ticks = 0; standing = TimedOut }) (record { source = g .source; destination = g .destination; seq = g .seq; ticks = g .ticks - 1; standing = g .standing })) g .standing) ≡ true → x ≡ true
+    go true e t = refl
+    go false e t = sym e ∙ t
+
+-- and is the same but for its ticks
+ticked-alike : (g h : Leg) → alike (ticked g) (ticked h) ≡ true → alike g h ≡ true
+ticked-alike g h e =
+    let a = alike-is (ticked g) (ticked h) e in
+    let source : (x : Leg) → ticked x .source ≡ x .source = λ x. ticked-field (λ (y : Leg). y .source) x refl refl in
+    let destination : (x : Leg) → ticked x .destination ≡ x .destination = λ x. ticked-field (λ (y : Leg). y .destination) x refl refl in
+    let number : (x : Leg) → ticked x .seq .0 ≡ x .seq .0 = λ x. ticked-field (λ (y : Leg). y .seq .0) x refl refl in
+    is-alike g h (record {
+      first = still g (a .first);
+      second = record {
+        is-open = still h (a .second .is-open);
+        from = sym (source h) ∙ a .second .from ∙ source g;
+        to = sym (destination h) ∙ a .second .to ∙ destination g;
+        numbered = sym (number h) ∙ a .second .numbered ∙ number g;
+      };
+    })
+
+-- a leg that a tick leaves open has ticks left, and one that it ends has none
+ticks-right : (g : Leg) → ticksRight g ≡ true → ticksRight (ticked g) ≡ true
+unfolding ticksRight ticked isOpen
+ticks-right g h = go (isOpen (g .standing)) refl (leb (g .ticks) 1) refl
+  where
+    go : (x : Bool) → isOpen (g .standing) ≡ x → (y : Bool) → leb (g .ticks) 1 ≡ y
+        → ticksRight (cond x (cond y (record { source = g .source; destination = g .destination; seq = g .seq; ticks = 0; standing = TimedOut }) (record { source = g .source; destination = g .destination; seq = g .seq; ticks = g .ticks - 1; standing = g .standing })) g) ≡ true
+    go true e true f = refl
+    go true e false f = rw (e, lt-ltb 0 (g .ticks - 1) (omega (arith, leb-false (g .ticks) 1 f)))
+    go false e y f = h
+
+ticked-right : (g : Leg) → legRight g ≡ true → legRight (ticked g) ≡ true
+ticked-right g h =
+    let p = right g h in
+    leg-right (ticked g) (record {
+      ticks = ticks-right g (p .ticks);
+      source = ap inRange (ticked-field (λ (y : Leg). y .source) g refl refl) ∙ p .source;
+      destination = ap inRange (ticked-field (λ (y : Leg). y .destination) g refl refl) ∙ p .destination;
+      seq = rw (ticked-field (λ (y : Leg). y .seq .0) g refl refl) (p .seq);
+    })
+
+module _ (l : Ledger) (whole : Whole l) (z : tickNumber l ≡ 0) where
+  tick-count : tickOf l .ledger .count ≡ l .count
+  unfolding tickedLedger
+  tick-count = ap (λ (m : Ledger). m .count) (tick-after l whole z)
+
+  pub tick-keeps : obeys (tickOf l .ledger) ≡ true
+  tick-keeps =
+      let o = tick-rules l whole z in
+      obeys-from (tickOf l .ledger) (rw tick-count (o .few))
+      (λ i h.
+      let k : i < l .count = rw tick-count at h in
+      rw (tick-at l whole z i k) (ticked-right (legAt l i) (o .each i k)))
+      (λ i j h m.
+      let k : i < l .count = rw tick-count at h in
+      rw (tick-at l whole z i k, tick-at l whole z j (omega arith))
+      (not-so (alike (ticked (legAt l i)) (ticked (legAt l j))) _ (ticked-alike (legAt l i) (legAt l j)) (apart-at l o i j k (omega arith) (λ e. omega arith))))
+
+-- ---- clear
+
+module _ (l : Ledger) (place : ℕ) (whole : Whole l) (z : clearNumber l place ≡ 0) where
+  pub clear-count : suc (clearOf l place .ledger .count) ≡ l .count
+  unfolding closeUp
+  clear-count =
+      let e : clearOf l place .ledger .count ≡ l .count - 1 = ap (λ (m : Ledger). m .count) (clear-after l place whole z) in
+      omega (arith, clear-within l place whole z)
+
+  -- where the leg at a place stood before
+  from : ℕ → ℕ
+  from i = cond (ltb i place) i (suc i)
+
+  from-is : (i : ℕ) → suc i < l .count → legAt (clearOf l place .ledger) i ≡ legAt l (from i)
+  unfolding from
+  from-is i h = go (ltb i place) refl
+    where
+      go : (b : Bool) → ltb i place ≡ b → legAt (clearOf l place .ledger) i ≡ legAt l (cond b i (suc i))
+      go true e = clear-before l place whole z i (ltb-true i place e)
+      go false e = clear-moved l place whole z i (ltb-false i place e) h
+
+  from-small : (i : ℕ) → suc i < l .count → from i < l .count
+  unfolding from
+  from-small i h = go (ltb i place)
+    where
+      go : (b : Bool) → cond b i (suc i) < l .count
+      go true = omega arith
+      go false = h
+
+  from-apart : (i j : ℕ) → j < i → from i ≡ from j → ⊥
+  unfolding from
+  from-apart i j h = go (ltb i place) refl (ltb j place) refl
+    where
+      go : (b : Bool) → ltb i place ≡ b → (c : Bool) → ltb j place ≡ c → cond b i (suc i) ≡ cond c j (suc j) → ⊥
+      go true p true q e = omega arith
+      go true p false q e = omega (arith, ltb-true i place p, ltb-false j place q)
+      go false p true q e = omega arith
+      go false p false q e = omega arith
+
+  pub clear-keeps : obeys (clearOf l place .ledger) ≡ true
+  clear-keeps =
+      let o = clear-rules l place whole z in
+      obeys-from (clearOf l place .ledger) (omega (arith, clear-count, o .few))
+      (λ i h.
+      let k : suc i < l .count = omega (arith, clear-count) in
+      rw (from-is i k) (o .each (from i) (from-small i k)))
+      (λ i j h m.
+      let k : suc i < l .count = omega (arith, clear-count) in
+      let n : suc j < l .count = omega arith in
+      rw (from-is i k, from-is j n) (apart-at l o (from i) (from j) (from-small i k) (from-small j n) (from-apart i j m)))
+
+-- ---- accept
+
+module _ (e : Fixed) (arrival : Port) (t : Table) (ticks : ℕ) (d : Address) where
+  -- whatever the choice, the leg has the message's source and number, and the destination
+  leg-field : {A : Type 0} (field : Leg → A) (a : A) → field (record { source = e .source; destination = d; seq = e .seq; ticks = 0; standing = Undeliverable }) ≡ a
+      → field (record { source = e .source; destination = d; seq = e .seq; ticks = ticks; standing = Open }) ≡ a → field (legFor e arrival t ticks d) ≡ a
+  unfolding legFor
+  leg-field field a p q = go (unrouted (chooseOf t d arrival))
+    where
+      go : (b : Bool) → field (cond b (record { source = e .source; destination = d; seq = e .seq; ticks = 0; standing = Undeliverable }) (record { source = e .source; destination = d; seq = e .seq; ticks = ticks; standing = Open })) ≡ a
+      go true = p
+      go false = q
+
+  new-right : inRange (e .source) ≡ true → inRange d ≡ true → e .seq .0 ≤ 32767 → (ticks ≡ 0 → ⊥) → legRight (legFor e arrival t ticks d) ≡ true
+  unfolding ticksRight isOpen
+  new-right s r n lasting =
+      let g = legFor e arrival t ticks d in
+      leg-right g (record {
+        ticks = leg-field ticksRight true refl (lt-ltb 0 ticks (omega (arith, lasting)));
+        source = ap inRange (leg-field (λ (y : Leg). y .source) (e .source) refl refl) ∙ s;
+        destination = ap inRange (leg-field (λ (y : Leg). y .destination) d refl refl) ∙ r;
+        seq = rw (leg-field (λ (y : Leg). y .seq .0) (e .seq .0) refl refl) n;
+      })
+
+-- an open leg with a source and a number
+from-source : (source : Address) (seq : Seq) (g : Leg) → isOpen (g .standing) ≡ true → g .source ≡ source → g .seq .0 ≡ seq .0 → openFrom source seq g ≡ true
+unfolding openFrom
+from-source source seq g o p n = and-both (and-both o (ap (sameAddress (g .source)) (sym p) ∙ same-refl (g .source))) (eq-eqb _ _ n)
+
+module _ (l : Ledger) (f : List ℕ) (arrival : Port) (t : Table) (ticks : ℕ) (whole : Whole l) (z : acceptNumber l f arrival t ticks ≡ 0) where
+  abbrev after-accept : Ledger
+  after-accept = acceptOf l f arrival t ticks .ledger
+
+  abbrev e : Fixed
+  e = fieldsOf f
+
+  abbrev d : ℕ → Address
+  d = destinationAt (drop partAt f)
+
+  pub in-order : Ranged e d
+  in-order = ranged e d (accepted f (frame-taken l f arrival t ticks whole z) .values .inside)
+
+  -- the frame's destinations differ
+  differ : (i j : ℕ) → i < e .count → j < i → d i ≡ d j → ⊥
+  unfolding repeats repeatAt sameAt fieldsOf
+  differ i j h m q =
+      both-ways (ap (sameAddress (d i)) (sym q) ∙ same-refl (d i))
+      (any-false (sameAt sameAddress d i) i j (any-false (repeatAt sameAddress d) (e .count) i (accepted f (frame-taken l f arrival t ticks whole z) .values .distinct) h) m)
+
+  module _ (asked : e .ack ≡ true) where
+    room : Roomy l e ticks
+    room = accept-room l f arrival t ticks whole z asked
+
+    rules : Obedient l
+    rules = accept-rules l f arrival t ticks whole z
+
+    pub accept-count : after-accept .count ≡ l .count + e .count
+    unfolding withLegs
+    accept-count = ap (λ (m : Ledger). m .count) (accept-after l f arrival t ticks whole z asked)
+
+    abbrev new : ℕ → Leg
+    new i = legFor e arrival t ticks (d i)
+
+    old-at : (i : ℕ) → i < l .count → legAt after-accept i ≡ legAt l i
+    old-at = accept-before l f arrival t ticks whole z asked
+
+    new-at : (i k : ℕ) → i ≡ l .count + k → k < e .count → legAt after-accept i ≡ new k
+    unfolding legForAt
+    new-at i k q h = rw q (accept-new l f arrival t ticks whole z asked k h)
+
+    each-right : (i : ℕ) → i < l .count + e .count → legRight (legAt after-accept i) ≡ true
+    each-right i h = go (decLt i (l .count))
+      where
+        go : Dec (i < l .count) → legRight (legAt after-accept i) ≡ true
+        go (yes p) = rw (old-at i p) (rules .each i p)
+        go (no p) =
+            let k = i - l .count in
+            rw (new-at i k (omega arith) (omega arith)) (new-right e arrival t ticks (d k) (in-order .source-in) (in-order .destination-in k (omega arith)) (in-order .seq-le) (room .lasting))
+
+    -- an old leg with the source and the number of a new one is not open
+    old-new : (j k : ℕ) → j < l .count → alike (new k) (legAt l j) ≡ false
+    unfolding openFromAt
+    old-new j k h =
+        not-so (alike (new k) (legAt l j)) (openFromAt l (e .source) (e .seq) j)
+        (λ a.
+        let s = alike-is (new k) (legAt l j) a .second in
+        from-source (e .source) (e .seq) (legAt l j) (s .is-open)
+        (s .from ∙ leg-field e arrival t ticks (d k) (λ (y : Leg). y .source) (e .source) refl refl)
+        (s .numbered ∙ leg-field e arrival t ticks (d k) (λ (y : Leg). y .seq .0) (e .seq .0) refl refl))
+        (any-false (openFromAt l (e .source) (e .seq)) (l .count) j (room .fresh) h)
+
+    -- two new legs have different destinations
+    new-new : (k m : ℕ) → k < e .count → m < k → alike (new k) (new m) ≡ false
+    new-new k m h n =
+        not-so (alike (new k) (new m)) false
+        (λ a.
+        let s = alike-is (new k) (new m) a .second in
+        let goal : Leg → Address = λ x. x .destination in
+        absurd (differ k m h n
+        (sym (leg-field e arrival t ticks (d k) goal (d k) refl refl) ∙ sym (s .to) ∙ leg-field e arrival t ticks (d m) goal (d m) refl refl)))
+        refl
+
+    each-apart : (i j : ℕ) → i < l .count + e .count → j < i → alike (legAt after-accept i) (legAt after-accept j) ≡ false
+    each-apart i j h m = go (decLt i (l .count)) (decLt j (l .count))
+      where
+        go : Dec (i < l .count) → Dec (j < l .count) → alike (legAt after-accept i) (legAt after-accept j) ≡ false
+        go (yes p) q = rw (old-at i p, old-at j (omega arith)) (apart-at l rules i j p (omega arith) (λ c. omega arith))
+        go (no p) (yes q) =
+            let k = i - l .count in
+            rw (new-at i k (omega arith) (omega arith), old-at j q) (old-new j k q)
+        go (no p) (no q) =
+            let k = i - l .count in
+            let n = j - l .count in
+            rw (new-at i k (omega arith) (omega arith), new-at j n (omega arith) (omega arith)) (new-new k n (omega arith) (omega arith))
+
+    asked-keeps : obeys after-accept ≡ true
+    asked-keeps =
+        obeys-from after-accept (omega (arith, accept-count, room .room, rules .few))
+        (λ i h. each-right i (rw accept-count at h))
+        (λ i j h m. each-apart i j (rw accept-count at h) m)
+
+  pub accept-keeps : obeys after-accept ≡ true
+  accept-keeps = go (e .ack) refl
+    where
+      go : (b : Bool) → e .ack ≡ b → obeys after-accept ≡ true
+      go true a = asked-keeps a
+      go false a = rw (accept-quiet-after l f arrival t ticks whole z a) (accept-call l f arrival t ticks whole z .rules)

@@ -1,0 +1,5 @@
+pub mod Rules
+pub mod Places
+pub mod Keeps
+pub mod Promises
+pub mod Cases
