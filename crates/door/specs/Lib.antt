@@ -1,3 +1,5 @@
 pub mod Address
 pub mod Envelope
+pub mod Leg
+pub mod Ledger
 pub mod Promises
