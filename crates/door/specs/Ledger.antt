@@ -17,7 +17,7 @@ use Rattle.ledger_calls.specs.declared.Reply.the-variants.{Ack, Nak}
 use Rattle.ledger_calls.specs.Answer.{answerNumber, answerOf}
 use Rattle.ledger_calls.specs.Tick.{tickNumber, tickOf}
 use Rattle.ledger_calls.specs.Clear.{clearNumber, clearOf}
-use Rattle.door.specs.Leg.{legBytes, legIn, strayLeg}
+use Rattle.door.specs.Leg.{legBytes, legIn, strayLegIn}
 
 abbrev pub ledgerSize : ℕ
 ledgerSize = 1921
@@ -25,24 +25,24 @@ ledgerSize = 1921
 -- ---- the ledger in an image
 
 -- how many of its legs count
-abbrev pub countIn : List ℕ → ℕ
-countIn b = getD b 0 0
+abbrev pub legCount : List ℕ → ℕ
+legCount b = getD b 0 0
 
 -- the leg at place i
 unfoldable pub heldLeg : List ℕ → ℕ → Leg
 heldLeg b i = legIn b (1 + 15 * i)
 
 -- the bytes at place i are no leg's
-unfoldable pub strayAt : List ℕ → ℕ → Bool
-strayAt b i = strayLeg b (1 + 15 * i)
+unfoldable pub strayLegAt : List ℕ → ℕ → Bool
+strayLegAt b i = strayLegIn b (1 + 15 * i)
 
 -- the image can be read: it is long enough, counts at most 128 legs, and none that counts is stray
 unfoldable pub readableLedger : List ℕ → Bool
-readableLedger b = leb ledgerSize (length b) && leb (countIn b) mostLegs && not (anyBelow (strayAt b) (countIn b))
+readableLedger b = leb ledgerSize (length b) && leb (legCount b) mostLegs && not (anyBelow (strayLegAt b) (legCount b))
 
 -- the ledger in it: places past the count are not looked at, and hold no leg
 unfoldable pub ledgerIn : List ℕ → Ledger
-ledgerIn b = record { count = countIn b; legs = row mostLegs noLeg (heldLeg b) (countIn b) }
+ledgerIn b = record { count = legCount b; legs = row mostLegs noLeg (heldLeg b) (legCount b) }
 
 -- the image with a ledger's count and its first n legs written into it; every other byte is as it was
 unfoldable pub withLegs : List ℕ → Ledger → ℕ → List ℕ
@@ -64,7 +64,7 @@ module _ (b : List ℕ) (by to : Address) (seq : Seq) where
   answerNumberFor = refuse 60 (not (readableLedger b)) (answerNumber (ledgerIn b) by to seq)
 
   unfoldable pub answerImage : Reply → List ℕ
-  answerImage reply = ledgerAfter b answerNumberFor (answerOf (ledgerIn b) by to seq reply .ledger) (countIn b)
+  answerImage reply = ledgerAfter b answerNumberFor (answerOf (ledgerIn b) by to seq reply .ledger) (legCount b)
 
 module _ (b : List ℕ) where
   unfoldable pub tickNumberFor : ℕ
@@ -75,11 +75,11 @@ module _ (b : List ℕ) where
   endedFor = unlessRefused tickNumberFor (tickOf (ledgerIn b) .ended) 0
 
   unfoldable pub tickImage : List ℕ
-  tickImage = ledgerAfter b tickNumberFor (tickOf (ledgerIn b) .ledger) (countIn b)
+  tickImage = ledgerAfter b tickNumberFor (tickOf (ledgerIn b) .ledger) (legCount b)
 
 module _ (b : List ℕ) (place : ℕ) where
   unfoldable pub clearNumberFor : ℕ
   clearNumberFor = refuse 60 (not (readableLedger b)) (clearNumber (ledgerIn b) place)
 
   unfoldable pub clearImage : List ℕ
-  clearImage = ledgerAfter b clearNumberFor (clearOf (ledgerIn b) place .ledger) (countIn b)
+  clearImage = ledgerAfter b clearNumberFor (clearOf (ledgerIn b) place .ledger) (legCount b)

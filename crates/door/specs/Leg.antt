@@ -52,5 +52,5 @@ legIn b at =
     }
 
 -- the 15 bytes that begin at a place are no leg's
-unfoldable pub strayLeg : List ℕ → ℕ → Bool
-strayLeg b at = strayStanding (getD b (at + 12) 0) (getD b (at + 13) 0) (getD b (at + 14) 0)
+unfoldable pub strayLegIn : List ℕ → ℕ → Bool
+strayLegIn b at = strayStanding (getD b (at + 12) 0) (getD b (at + 13) 0) (getD b (at + 14) 0)

@@ -11,14 +11,14 @@ ghost use Prim.Native.Nat.{_≤_};
 ghost use lib.ListN.{length};
 ghost use Rattle.lists.specs.Places.{anyBelow, row};
 ghost use Rattle.ledger.specs.Rules.{noLeg};
-ghost use Rattle.door.specs.Ledger.{heldLeg, strayAt, readableLedger, ledgerIn, withLegs, ledgerAfter};
+ghost use Rattle.door.specs.Ledger.{heldLeg, strayLegAt, readableLedger, ledgerIn, withLegs, ledgerAfter};
 
 const LEDGER_SIZE: usize = 1921;
 
 // Whether one of the first n places holds bytes that are no leg's.
 fn any_stray(b: &[u8], n: usize) -> bool
     requires { ⌜ (n ≤ 128) × (1921 ≤ length (now b)) ⌝ }
-    ensures { λ r. ⌜ r ≡ anyBelow (strayAt (now (b .entry))) n ⌝ }
+    ensures { λ r. ⌜ r ≡ anyBelow (strayLegAt (now (b .entry))) n ⌝ }
 {
     let mut i = 0;
     while i < n {

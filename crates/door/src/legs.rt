@@ -7,7 +7,7 @@ use ledger::Standing;
 ghost use mathlib.Core.Path.{_≡_};
 ghost use Prim.Native.Nat.{_+_, _≤_};
 ghost use lib.ListN.{length};
-ghost use Rattle.door.specs.Leg.{standingBytes, standingOf, strayStanding, legBytes, legIn, strayLeg};
+ghost use Rattle.door.specs.Leg.{standingBytes, standingOf, strayStanding, legBytes, legIn, strayLegIn};
 
 // The three bytes of a standing: its kind, and the set and the code of a refusal.
 fn standing_bytes(s: Standing) -> [u8; 3]
@@ -102,7 +102,7 @@ pub fn leg_in(b: &[u8], at: usize) -> Leg
 // Whether the 15 bytes that begin at a place are no leg's.
 pub fn stray_leg(b: &[u8], at: usize) -> bool
     requires { ⌜ at + 15 ≤ length (now b) ⌝ }
-    ensures { λ r. ⌜ r ≡ strayLeg (now (b .entry)) at ⌝ }
+    ensures { λ r. ⌜ r ≡ strayLegIn (now (b .entry)) at ⌝ }
 {
     stray_standing(b[at + 12], b[at + 13], b[at + 14])
 }

@@ -1,5 +1,5 @@
 -- `door::legs::stray_leg` meets its contract: the last three of the 15 bytes decide.
-use Rattle.door.specs.Leg.{strayLeg}
+use Rattle.door.specs.Leg.{strayLegIn}
 use borrow.Author.Needs.{needs}
 use Rattle.door.proofs.legs.stray_leg.Statement.{statement}
 use Rattle.door.proofs.legs.stray_leg.Tie as tie
@@ -26,7 +26,7 @@ stray-standing-requires : tie.Need-stray-standing-requires
 stray-standing-requires c κs = search needs
 
 returns : tie.Need-returns
-unfolding strayLeg
+unfolding strayLegIn
 returns c = c .stray-standing .ensures
 
 pub stray-leg-spec : {M : Type 1} → statement M
