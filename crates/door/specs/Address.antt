@@ -12,3 +12,7 @@ addressBytes a = (a .brigade ∷ []) ++ wordBytes (a .node .0) ++ (a .port .0 �
 -- the address whose four bytes begin at a place
 abbrev pub addressIn : List ℕ → ℕ → Address
 addressIn b at = record { brigade = getD b at 0; node = record { 0 = wordAt b (at + 1) }; port = record { 0 = getD b (at + 3) 0 } }
+
+-- the address with these numbers
+abbrev pub addressOf : ℕ → ℕ → ℕ → Address
+addressOf brigade node port = record { brigade = brigade; node = record { 0 = node }; port = record { 0 = port } }

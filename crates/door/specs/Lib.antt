@@ -1,3 +1,6 @@
 pub mod Address
 pub mod Envelope
+pub mod Table
+pub mod Leg
+pub mod Ledger
 pub mod Promises
