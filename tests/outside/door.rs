@@ -1,6 +1,7 @@
 //! The library's C interface. Whatever is lent to a call lies between guard bytes, and each of its
 //! bytes is known beforehand, so that every change can be seen.
 
+use crate::wire::Address;
 use std::array::from_fn;
 use std::fmt;
 use std::sync::atomic::{AtomicU8, Ordering};
@@ -16,18 +17,68 @@ extern "C" {
         n: usize,
         written: *mut u16,
     ) -> u8;
+    fn pz_choose(
+        table: *const u8,
+        m: usize,
+        brigade: u8,
+        node: u16,
+        port: u8,
+        arrival: u8,
+        local: *mut u8,
+        out: *mut u8,
+    ) -> u8;
+    fn pz_accept(
+        ledger: *mut u8,
+        m: usize,
+        frame: *const u8,
+        n: usize,
+        arrival: u8,
+        table: *const u8,
+        t: usize,
+        ticks: u16,
+        added: *mut u8,
+    ) -> u8;
+    fn pz_answer(
+        ledger: *mut u8,
+        m: usize,
+        by_brigade: u8,
+        by_node: u16,
+        by_port: u8,
+        to_brigade: u8,
+        to_node: u16,
+        to_port: u8,
+        seq: u16,
+        nak: u8,
+        set: u8,
+        code: u8,
+    ) -> u8;
+    fn pz_tick(ledger: *mut u8, m: usize, ended: *mut u8) -> u8;
+    fn pz_clear(ledger: *mut u8, m: usize, place: usize) -> u8;
 }
 
 const GUARD: usize = 64;
 
 // More than any frame or image that is not made too long on purpose.
-const MOST_SHOWN: usize = 1300;
+const MOST_SHOWN: usize = 2000;
 
-// No call writes as many bytes as this.
-const UNSET: u16 = 0xa5a5;
+// No call gives a number made of such bytes.
+const UNSET: u64 = 0xa5a5_a5a5_a5a5_a5a5;
 
-/// What a call should leave in the lent buffer, from its start, or the refusal.
-pub type Expected = Result<Vec<u8>, u8>;
+/// What a call gives that is not refused: the first bytes of the lent buffer, the others left as
+/// they were, and the numbers beside its own.
+pub struct Given {
+    pub bytes: Vec<u8>,
+    pub beside: Vec<usize>,
+}
+
+impl Given {
+    pub fn new(bytes: Vec<u8>, beside: &[usize]) -> Given {
+        Given { bytes, beside: beside.to_vec() }
+    }
+}
+
+/// What a call should give, or the refusal; beside that every number is 0 and no byte changed.
+pub type Expected = Result<Given, u8>;
 
 /// Gives bytes as hex, the first ones of a great many.
 pub fn hex(bytes: &[u8]) -> String {
@@ -79,6 +130,52 @@ impl Lent {
             && self.now[start..end] == *bytes
             && self.now[end..] == self.before[end..]
     }
+
+    // Tells where these bytes differ from what was lent, if they do.
+    fn change(&self, now: &[u8]) -> String {
+        let mut changed = (0..now.len()).filter(|&place| now[place] != self.before[place]);
+        let first = match changed.next() {
+            Some(first) => first,
+            None => return String::new(),
+        };
+        let last = changed.next_back().unwrap_or(first);
+        let place = first as isize - GUARD as isize;
+        let bytes = hex(&now[first..=last]);
+        format!(", {} of {} changed from {place} on: {bytes}", self.name, self.size)
+    }
+}
+
+// A number that a call gives beside its own, in the low bytes of the second cell.
+struct Beside {
+    name: &'static str,
+    width: u32,
+    cells: [u64; 3],
+}
+
+impl Beside {
+    // Lends room for a number of this many bits.
+    fn new(name: &'static str, width: u32) -> Beside {
+        Beside { name, width, cells: [UNSET; 3] }
+    }
+
+    fn start<T>(&mut self) -> *mut T {
+        self.cells.as_mut_ptr().wrapping_add(1).cast()
+    }
+
+    fn number(&self) -> usize {
+        (self.cells[1] & !(u64::MAX << self.width)) as usize
+    }
+
+    // Whether just this number was set.
+    fn holds(&self, number: usize) -> bool {
+        self.number() == number && self.is_alone()
+    }
+
+    // Whether no byte around the number was changed.
+    fn is_alone(&self) -> bool {
+        let [before, cell, after] = self.cells.map(|cell| cell ^ UNSET);
+        before == 0 && cell >> self.width == 0 && after == 0
+    }
 }
 
 /// What came of a call: its number, and all that it may have changed.
@@ -86,49 +183,63 @@ pub struct Answer {
     pub number: u8,
     lent: Lent,
     handed_in: Vec<Lent>,
-    written: Option<[u16; 3]>,
+    beside: Vec<Beside>,
 }
 
 impl Answer {
+    // Gives the number, the bytes and the numbers beside that make up what is expected.
+    fn parts(&self, expected: &Expected) -> (u8, Vec<u8>, Vec<usize>) {
+        match expected {
+            Ok(given) => (0, given.bytes.clone(), given.beside.clone()),
+            Err(number) => (*number, Vec::new(), vec![0; self.beside.len()]),
+        }
+    }
+
     /// Whether this came, with no other byte changed.
     pub fn is(&self, expected: &Expected) -> bool {
-        let (number, bytes): (u8, &[u8]) = match expected {
-            Ok(bytes) => (0, bytes),
-            Err(number) => (*number, &[]),
-        };
+        let (number, bytes, beside) = self.parts(expected);
+        assert_eq!(self.beside.len(), beside.len());
         self.number == number
-            && self.lent.holds(bytes)
+            && self.lent.holds(&bytes)
             && self.handed_in.iter().all(|lent| lent.holds(&[]))
-            && self.written.map_or(true, |written| {
-                written.map(usize::from) == [UNSET.into(), bytes.len(), UNSET.into()]
-            })
+            && self.beside.iter().zip(beside).all(|(cell, number)| cell.holds(number))
+    }
+
+    /// Tells what was expected and what came.
+    pub fn against(&self, expected: &Expected) -> String {
+        let (number, bytes, beside) = self.parts(expected);
+        let mut text = format!("expected {number}");
+        for (cell, number) in self.beside.iter().zip(beside) {
+            text += &format!(", {} {number}", cell.name);
+        }
+        let mut now = self.lent.before.clone();
+        now[GUARD..][..bytes.len()].copy_from_slice(&bytes);
+        text += &self.lent.change(&now);
+        format!("{text}\n  came {self}")
     }
 
     /// Gives the lent buffer.
     pub fn bytes(&self) -> &[u8] {
         &self.lent.now[GUARD..][..self.lent.size]
     }
+
+    /// Gives the first number beside the answer's own.
+    pub fn first_beside(&self) -> usize {
+        self.beside[0].number()
+    }
 }
 
 impl fmt::Display for Answer {
     fn fmt(&self, f: &mut fmt::Formatter) -> fmt::Result {
         write!(f, "{}", self.number)?;
-        if let Some([before, written, after]) = self.written {
-            write!(f, ", written {written}")?;
-            if before != UNSET || after != UNSET {
-                write!(f, " and beside it")?;
+        for cell in &self.beside {
+            write!(f, ", {} {}", cell.name, cell.number())?;
+            if !cell.is_alone() {
+                write!(f, " and bytes around it")?;
             }
         }
         for lent in self.handed_in.iter().chain([&self.lent]) {
-            let is_changed = |&place: &usize| lent.now[place] != lent.before[place];
-            let mut changed = (0..lent.now.len()).filter(is_changed);
-            if let Some(first) = changed.next() {
-                let last = changed.next_back().unwrap_or(first);
-                let place = first as isize - GUARD as isize;
-                let bytes = hex(&lent.now[first..=last]);
-                let (name, size) = (lent.name, lent.size);
-                write!(f, ", {name} of {size} changed from {place} on: {bytes}")?;
-            }
+            write!(f, "{}", lent.change(&lent.now))?;
         }
         Ok(())
     }
@@ -139,7 +250,7 @@ pub fn read(frame: &[u8], image_size: usize) -> Answer {
     let mut frame = Lent::holding("frame", frame);
     let mut image = Lent::blank("image", image_size);
     let number = unsafe { pz_read(frame.start(), frame.size, image.start(), image.size) };
-    Answer { number, lent: image, handed_in: vec![frame], written: None }
+    Answer { number, lent: image, handed_in: vec![frame], beside: vec![] }
 }
 
 /// Calls pz_write and lends it a frame buffer of this size.
@@ -147,7 +258,7 @@ pub fn write(image: &[u8], contents: &[u8], frame_size: usize) -> Answer {
     let mut image = Lent::holding("image", image);
     let mut contents = Lent::holding("contents", contents);
     let mut frame = Lent::blank("frame", frame_size);
-    let mut written = [UNSET; 3];
+    let mut written = Beside::new("written", u16::BITS);
     let number = unsafe {
         pz_write(
             image.start(),
@@ -156,8 +267,96 @@ pub fn write(image: &[u8], contents: &[u8], frame_size: usize) -> Answer {
             contents.size,
             frame.start(),
             frame.size,
-            written.as_mut_ptr().wrapping_add(1),
+            written.start(),
         )
     };
-    Answer { number, lent: frame, handed_in: vec![image, contents], written: Some(written) }
+    Answer { number, lent: frame, handed_in: vec![image, contents], beside: vec![written] }
+}
+
+fn byte(number: usize) -> u8 {
+    number.try_into().expect("a number of one byte")
+}
+
+fn word(number: usize) -> u16 {
+    number.try_into().expect("a number of two bytes")
+}
+
+/// Calls pz_choose.
+pub fn choose(table: &[u8], destination: Address, arrival: usize) -> Answer {
+    let mut table = Lent::holding("table", table);
+    let mut local = Beside::new("local", u8::BITS);
+    let mut out = Beside::new("out", u8::BITS);
+    let number = unsafe {
+        pz_choose(
+            table.start(),
+            table.size,
+            byte(destination.brigade),
+            word(destination.node),
+            byte(destination.port),
+            byte(arrival),
+            local.start(),
+            out.start(),
+        )
+    };
+    Answer { number, lent: table, handed_in: vec![], beside: vec![local, out] }
+}
+
+/// Calls pz_accept.
+pub fn accept(ledger: &[u8], frame: &[u8], arrival: usize, table: &[u8], ticks: usize) -> Answer {
+    let mut ledger = Lent::holding("ledger", ledger);
+    let mut frame = Lent::holding("frame", frame);
+    let mut table = Lent::holding("table", table);
+    let mut added = Beside::new("added", u8::BITS);
+    let number = unsafe {
+        pz_accept(
+            ledger.start(),
+            ledger.size,
+            frame.start(),
+            frame.size,
+            byte(arrival),
+            table.start(),
+            table.size,
+            word(ticks),
+            added.start(),
+        )
+    };
+    Answer { number, lent: ledger, handed_in: vec![frame, table], beside: vec![added] }
+}
+
+/// Calls pz_answer: a number for ACK or NAK, then the reason set and the code.
+pub fn answer(ledger: &[u8], by: Address, to: Address, seq: usize, reply: [usize; 3]) -> Answer {
+    let mut ledger = Lent::holding("ledger", ledger);
+    let [nak, set, code] = reply.map(byte);
+    let number = unsafe {
+        pz_answer(
+            ledger.start(),
+            ledger.size,
+            byte(by.brigade),
+            word(by.node),
+            byte(by.port),
+            byte(to.brigade),
+            word(to.node),
+            byte(to.port),
+            word(seq),
+            nak,
+            set,
+            code,
+        )
+    };
+    Answer { number, lent: ledger, handed_in: vec![], beside: vec![] }
+}
+
+/// Calls pz_tick.
+pub fn tick(ledger: &[u8]) -> Answer {
+    let mut ledger = Lent::holding("ledger", ledger);
+    let mut ended = Beside::new("ended", u8::BITS);
+    let number = unsafe { pz_tick(ledger.start(), ledger.size, ended.start()) };
+    Answer { number, lent: ledger, handed_in: vec![], beside: vec![ended] }
+}
+
+/// Calls pz_clear.
+pub fn clear(ledger: &[u8], place: usize) -> Answer {
+    let mut ledger = Lent::holding("ledger", ledger);
+    let number = unsafe { pz_clear(ledger.start(), ledger.size, place) };
+    Answer { number, lent: ledger, handed_in: vec![], beside: vec![] }
 }

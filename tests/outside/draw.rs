@@ -31,6 +31,21 @@ impl Draw {
         choices[self.below(choices.len())]
     }
 
+    /// Gives a node number out of range; the low bits alone may be in range.
+    pub fn bad_node(&mut self) -> usize {
+        self.one_of(&[1024, 1025, 2047, 32768, 65535])
+    }
+
+    /// Gives a port number out of range.
+    pub fn bad_port(&mut self) -> usize {
+        self.one_of(&[64, 65, 128, 255])
+    }
+
+    /// Gives a sequence number out of range.
+    pub fn bad_seq(&mut self) -> usize {
+        self.one_of(&[32768, 32769, 65535])
+    }
+
     /// Gives this many bytes of noise.
     pub fn bytes(&mut self, count: usize) -> Vec<u8> {
         let mut bytes = Vec::with_capacity(count + 8);

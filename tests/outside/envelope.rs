@@ -1,9 +1,10 @@
 //! pz_read and pz_write against the second reader and writer: frames worked by hand, both sides of
 //! every limit, the order of the refusals, every value of every field, and drawn frames and values.
 
-use crate::door::{self, hex, Answer, Expected};
+use crate::door::{self, hex, Expected, Given};
 use crate::draw::Draw;
 use crate::group::{Group, Outcome, Stop, Tally, Tests};
+use crate::rules::{break_rules, Breach};
 use crate::wire::{Address, Envelope, MOST_CONTENTS, MOST_DESTINATIONS};
 use crate::{image, wire};
 
@@ -19,7 +20,6 @@ pub const GROUPS: &[Tests] = &[
 
 const DRAWN_READS: usize = 240_000;
 const DRAWN_WRITES: usize = 120_000;
-const LEAST_SEEN: u64 = 100;
 
 // 5 and 6 cannot come from a reader, 1 to 3 not from a writer.
 const READ_NUMBERS: [u8; 9] = [0, 1, 2, 3, 4, 7, 8, 9, 10];
@@ -29,46 +29,39 @@ const WRITE_NUMBERS: [u8; 8] = [0, 4, 5, 6, 7, 8, 9, 10];
 const LONG: usize = 1 << 16;
 
 type Change = fn(&mut Envelope);
-type Fault<T> = fn(&mut T, &mut Draw);
+pub type Fault<T> = fn(&mut T, &mut Draw);
 
 // ---- one call, compared ----
-
-// Checks that an answer is the expected one, and gives whether it was.
-fn compare(
-    group: &mut Group,
-    came: &Answer,
-    expected: &Expected,
-    call: impl FnOnce() -> String,
-) -> Result<bool, Stop> {
-    group.check(came.is(expected), || {
-        let expected = match expected {
-            Ok(bytes) => format!("0 and {}", hex(bytes)),
-            Err(number) => format!("{number} and no byte changed"),
-        };
-        format!("{}\n  expected {expected}\n  came {came}", call())
-    })
-}
 
 fn expected_read(frame: &[u8], image_size: usize) -> Expected {
     let envelope = wire::read(frame)?;
     if image_size < image::SIZE {
         return Err(10);
     }
-    Ok(image::lay(&envelope))
+    Ok(read_to(image::lay(&envelope)))
 }
 
 fn expected_write(image: &[u8], contents: &[u8], room: usize) -> Expected {
     if image.len() < image::SIZE {
         return Err(10);
     }
-    wire::write(&image::take(image, contents.len()), contents, room)
+    wire::write(&image::take(image, contents.len()), contents, room).map(written_to)
+}
+
+fn read_to(image: Vec<u8>) -> Given {
+    Given::new(image, &[])
+}
+
+fn written_to(frame: Vec<u8>) -> Given {
+    let size = frame.len();
+    Given::new(frame, &[size])
 }
 
 // Reads a frame into an image of this size; an accepted one is written back to the same bytes.
 fn try_read(group: &mut Group, name: &str, frame: &[u8], image_size: usize) -> Result<u8, Stop> {
     let came = door::read(frame, image_size);
     let expected = expected_read(frame, image_size);
-    let held = compare(group, &came, &expected, || {
+    let held = group.compare(&came, &expected, || {
         format!("{name}: pz_read, image of {image_size}, frame {}", hex(frame))
     })?;
     if held && came.number == 0 {
@@ -76,7 +69,7 @@ fn try_read(group: &mut Group, name: &str, frame: &[u8], image_size: usize) -> R
         let offset = image::number(image, image::OFFSET);
         let length = image::number(image, image::LENGTH);
         let back = door::write(image, &frame[offset..offset + length], frame.len());
-        compare(group, &back, &Ok(frame.to_vec()), || {
+        group.compare(&back, &Ok(written_to(frame.to_vec())), || {
             format!("{name}: pz_write of the image that pz_read gave for {}", hex(frame))
         })?;
     }
@@ -93,30 +86,24 @@ fn try_write(
 ) -> Result<u8, Stop> {
     let came = door::write(image, contents, room);
     let expected = expected_write(image, contents, room);
-    let held = compare(group, &came, &expected, || {
+    let held = group.compare(&came, &expected, || {
         let (image, contents) = (hex(image), hex(contents));
         format!("{name}: pz_write, buffer of {room}, image {image}, contents {contents}")
     })?;
-    if let (true, Ok(frame)) = (held, expected) {
+    if let (true, Ok(Given { bytes: frame, .. })) = (held, expected) {
         let values = image::take(image, contents.len());
         let back = door::read(&frame, image::SIZE);
-        compare(group, &back, &Ok(image::lay(&values)), || {
+        group.compare(&back, &Ok(read_to(image::lay(&values))), || {
             format!("{name}: pz_read of {}, that pz_write gave", hex(&frame))
         })?;
     }
     Ok(came.number)
 }
 
-// Checks a number that is known beforehand, apart from the second reader and writer.
-fn known(group: &mut Group, name: &str, number: u8, came: u8) -> Outcome {
-    group.check(came == number, || format!("{name}\n  expected {number}\n  came {came}"))?;
-    Ok(())
-}
-
 // ---- named cases ----
 
-// A valid envelope with three destinations.
-fn plain() -> Envelope {
+/// Gives a valid envelope with three destinations.
+pub fn plain() -> Envelope {
     let mut envelope = Envelope {
         source: Address::new(9, 1, 2),
         count: 0,
@@ -132,16 +119,16 @@ fn plain() -> Envelope {
     envelope
 }
 
-// Sets this many destinations, alike but for the node.
-fn spread(e: &mut Envelope, count: usize) {
+/// Sets this many destinations, alike but for the node.
+pub fn spread(e: &mut Envelope, count: usize) {
     e.count = count;
     e.destinations = (0..count).map(|place| Address::new(9, 20 + place, 1)).collect();
 }
 
-// Image, frame before the contents, contents and check character, each worked by hand.
+/// Image, frame before the contents, contents and check character, each worked by hand.
 type ByHand = (&'static [u8], &'static [u8], &'static [u8], u8);
 
-const BY_HAND: [ByHand; 3] = [
+pub const BY_HAND: [ByHand; 3] = [
     (
         &[9, 0, 1, 2, 2, 0, 3, 1, 1, 1, 0, 5, 27, 0, 15, 9, 0, 20, 1, 255, 3, 255, 63],
         &[0x09, 0x00, 0x42, 0x00, 0xc2, 0x09, 0x05, 0x01, 0xff, 0xff, 0xff, 0x11, 0x00, 0x0b, 0x1b],
@@ -167,9 +154,11 @@ fn by_hand(group: &mut Group, _: &mut Draw) -> Outcome {
         let image = [image, &vec![0; image::SIZE - image.len()]].concat();
         let frame = [head, contents, &[check]].concat();
         let read = door::read(&frame, image::SIZE);
-        compare(group, &read, &Ok(image.clone()), || format!("pz_read of {}", hex(&frame)))?;
+        let expected = Ok(read_to(image.clone()));
+        group.compare(&read, &expected, || format!("pz_read of {}", hex(&frame)))?;
         let written = door::write(&image, contents, frame.len());
-        compare(group, &written, &Ok(frame.clone()), || format!("pz_write of {}", hex(&image)))?;
+        let expected = Ok(written_to(frame.clone()));
+        group.compare(&written, &expected, || format!("pz_write of {}", hex(&image)))?;
         try_read(group, "by hand", &frame, image::SIZE)?;
         try_write(group, "by hand", &image, contents, frame.len())?;
     }
@@ -267,11 +256,11 @@ fn limits(group: &mut Group, draw: &mut Draw) -> Outcome {
 fn limit(group: &mut Group, draw: &mut Draw, name: &str, number: u8, e: &Envelope) -> Outcome {
     let contents = draw.bytes(e.length);
     let written = try_write(group, name, &image::lay(e), &contents, e.size())?;
-    known(group, name, number, written)?;
+    group.known(name, number, written)?;
     let carried = number != 5 && number != 6 && e.count <= MOST_DESTINATIONS;
     if carried {
         let read = try_read(group, name, &wire::lay(e, &contents), image::SIZE)?;
-        known(group, name, number, read)?;
+        group.known(name, number, read)?;
     }
     Ok(())
 }
@@ -289,16 +278,16 @@ fn lengths(group: &mut Group, draw: &mut Draw) -> Outcome {
         for (number, room) in [(10, 0), (10, size - 1), (0, size), (0, size + 1), (0, LONG)] {
             let name = format!("a buffer of {room} for a frame of {size}");
             let came = try_write(group, &name, &image, &contents, room)?;
-            known(group, &name, number, came)?;
+            group.known(&name, number, came)?;
         }
         for (number, lent) in [(10, 0), (10, 266), (0, 267), (0, 268), (0, 400), (0, LONG)] {
             let name = format!("an image of {lent}");
             let mut lengthened = image.clone();
             lengthened.resize(lent, 0xff);
             let came = try_write(group, &name, &lengthened, &contents, size)?;
-            known(group, &name, number, came)?;
+            group.known(&name, number, came)?;
             let came = try_read(group, &name, &frame, lent)?;
-            known(group, &name, number, came)?;
+            group.known(&name, number, came)?;
         }
         let cuts = (0..size).map(|left| (1, left));
         for (number, left) in cuts.chain([(0, size), (2, size + 1), (2, size + LONG)]) {
@@ -307,20 +296,20 @@ fn lengths(group: &mut Group, draw: &mut Draw) -> Outcome {
             changed.resize(left, 0);
             wire::mend(&mut changed);
             let came = try_read(group, &name, &changed, image::SIZE)?;
-            known(group, &name, number, came)?;
+            group.known(&name, number, came)?;
         }
     }
     Ok(())
 }
 
-// One fault for each number, the last first: a later row may undo what an earlier one needs.
-const CARRIED: [(u8, Change); 4] = [
+/// One breach for each number, the last first: a later row may undo what an earlier one needs.
+pub const CARRIED: [Breach<Envelope>; 4] = [
     (9, |e| e.version = 2),
     (8, |e| e.destinations[1] = e.destinations[0]),
     (7, |e| e.priority = 10),
     (4, |e| spread(e, 0)),
 ];
-const WRITTEN: [(u8, Change); 6] = [
+const WRITTEN: [Breach<Envelope>; 6] = [
     CARRIED[0],
     CARRIED[1],
     CARRIED[2],
@@ -329,54 +318,47 @@ const WRITTEN: [(u8, Change); 6] = [
     (4, |e| e.count = MOST_DESTINATIONS + 1),
 ];
 
-// Gives an envelope with the chosen faults, one bit each, and the lowest of their numbers.
-fn faulty(faults: &[(u8, Change)], chosen: usize) -> (Envelope, Option<u8>) {
-    let mut envelope = plain();
-    let mut lowest = None;
-    for (place, (number, change)) in faults.iter().enumerate() {
-        if chosen >> place & 1 == 1 {
-            change(&mut envelope);
-            lowest = Some(*number);
-        }
-    }
-    (envelope, lowest)
+/// Gives a frame as it is, and damaged so that 1, 2 or 3 comes first.
+pub fn damaged(frame: &[u8]) -> [(Option<u8>, Vec<u8>); 5] {
+    let last = frame.len() - 1;
+    let change = |place: usize, by: u8| {
+        let mut frame = frame.to_vec();
+        frame[place] ^= by;
+        frame
+    };
+    [
+        (None, frame.to_vec()),
+        (Some(1), frame[..last].to_vec()),
+        (Some(2), [frame, &[0]].concat()),
+        (Some(3), change(last, 0x80)),
+        (Some(3), change(0, 0x01)),
+    ]
 }
 
-// Every choice of faults at once: the lowest number comes.
+// Every choice of breaches at once: the lowest number comes.
 fn order(group: &mut Group, draw: &mut Draw) -> Outcome {
     for chosen in 0..1 << WRITTEN.len() {
-        let (envelope, lowest) = faulty(&WRITTEN, chosen);
+        let mut envelope = plain();
+        let lowest = break_rules(&WRITTEN, chosen, &mut envelope);
         let contents = draw.bytes(envelope.length);
         let image = image::lay(&envelope);
         for (other, room) in [(0, envelope.size()), (10, 12), (10, 0)] {
             let came = try_write(group, "order", &image, &contents, room)?;
-            known(group, "order", lowest.unwrap_or(other), came)?;
+            group.known("order", lowest.unwrap_or(other), came)?;
         }
         let short = &image[..image::SIZE - 1];
         let came = try_write(group, "order", short, &contents, envelope.size())?;
-        known(group, "order", 10, came)?;
+        group.known("order", 10, came)?;
     }
     for chosen in 0..1 << CARRIED.len() {
-        let (envelope, lowest) = faulty(&CARRIED, chosen);
+        let mut envelope = plain();
+        let lowest = break_rules(&CARRIED, chosen, &mut envelope);
         let contents = draw.bytes(envelope.length);
-        let frame = wire::lay(&envelope, &contents);
-        let damage = |place: usize, by: u8| {
-            let mut frame = frame.clone();
-            frame[place] ^= by;
-            frame
-        };
-        let last = frame.len() - 1;
-        for (first, frame) in [
-            (None, frame.clone()),
-            (Some(1), frame[..last].to_vec()),
-            (Some(2), [&frame[..], &[0]].concat()),
-            (Some(3), damage(last, 0x80)),
-            (Some(3), damage(0, 0x01)),
-        ] {
+        for (first, frame) in damaged(&wire::lay(&envelope, &contents)) {
             for (other, lent) in [(0, image::SIZE), (10, image::SIZE - 1), (10, 0)] {
                 let number = first.or(lowest).unwrap_or(other);
                 let came = try_read(group, "order", &frame, lent)?;
-                known(group, "order", number, came)?;
+                group.known("order", number, came)?;
             }
         }
     }
@@ -487,8 +469,8 @@ fn change_type(e: &mut Envelope, draw: &mut Draw) {
     e.message_type = draw.one_of(&[0, 2, 3, 4, 255]);
 }
 
-// What the wire can carry: any value in each field, and the values that a rule refuses.
-const CARRIED_FAULTS: [Fault<Envelope>; 13] = [
+/// What the wire can carry: any value in each field, and the values that a rule refuses.
+pub const CARRIED_FAULTS: [Fault<Envelope>; 13] = [
     |e, draw| e.source = address(draw.below(1 << 24)),
     |e, draw| e.count = draw.below(64),
     |e, draw| e.length = draw.below(1024),
@@ -504,8 +486,8 @@ const CARRIED_FAULTS: [Fault<Envelope>; 13] = [
     repeat_destination,
 ];
 
-// What befalls a frame once it is laid.
-const FRAME_FAULTS: [Fault<Vec<u8>>; 10] = [
+/// What befalls a frame once it is laid.
+pub const FRAME_FAULTS: [Fault<Vec<u8>>; 10] = [
     |f, _| f.clear(),
     |f, draw| f.truncate(draw.below(f.len())),
     |f, _| {
@@ -554,7 +536,7 @@ fn reads(group: &mut Group, draw: &mut Draw) -> Outcome {
         let lent = draw.one_of(&[267, 267, 267, 267, 0, 266, 268, 400]);
         tally.saw(try_read(group, "drawn", &frame, lent)?);
     }
-    tally.settle(group, &READ_NUMBERS, LEAST_SEEN)
+    tally.settle(group, &READ_NUMBERS)
 }
 
 // Values just out of range, and some whose low bits alone would be in range.
@@ -562,25 +544,17 @@ const WRITTEN_FAULTS: [Fault<Envelope>; 13] = [
     |e, draw| e.count = draw.one_of(&[0, 64, 65, 128, 255]),
     |e, draw| e.length = draw.within(1024, 1100),
     |e, _| e.length = 1024,
-    |e, draw| bad_node(&mut e.source, draw),
-    |e, draw| bad_port(&mut e.source, draw),
-    |e, draw| change_destination(e, draw, bad_node),
-    |e, draw| change_destination(e, draw, bad_port),
-    |e, draw| e.seq = draw.one_of(&[32768, 32769, 65535]),
+    |e, draw| e.source.node = draw.bad_node(),
+    |e, draw| e.source.port = draw.bad_port(),
+    |e, draw| change_destination(e, draw, |a, draw| a.node = draw.bad_node()),
+    |e, draw| change_destination(e, draw, |a, draw| a.port = draw.bad_port()),
+    |e, draw| e.seq = draw.bad_seq(),
     |e, draw| e.ack = draw.one_of(&[2, 3, 128, 255]),
     |e, draw| e.priority = draw.one_of(&[0, 10, 15, 16, 17, 25, 255]),
     |e, draw| e.version = draw.one_of(&[0, 1, 2, 3, 17, 18, 255]),
     change_type,
     repeat_destination,
 ];
-
-fn bad_node(a: &mut Address, draw: &mut Draw) {
-    a.node = draw.one_of(&[1024, 1025, 2047, 32768, 65535]);
-}
-
-fn bad_port(a: &mut Address, draw: &mut Draw) {
-    a.port = draw.one_of(&[64, 65, 128, 255]);
-}
 
 // Puts noise, or destinations that would be refused, where a writer does not look.
 fn fill_unlooked(image: &mut [u8], count: usize, draw: &mut Draw) {
@@ -613,5 +587,5 @@ fn writes(group: &mut Group, draw: &mut Draw) -> Outcome {
         let room = draw.one_of(&[size, size, size, size - 1, less, more]);
         tally.saw(try_write(group, "drawn", &image, &contents, room)?);
     }
-    tally.settle(group, &WRITE_NUMBERS, LEAST_SEEN)
+    tally.settle(group, &WRITE_NUMBERS)
 }

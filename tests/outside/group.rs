@@ -1,10 +1,14 @@
 //! A group of tests: its checks are counted, its first failures printed, and then it stops.
 
+use crate::door::{Answer, Expected};
 use crate::draw::Draw;
 use std::collections::BTreeMap;
 
 // Failures that a group prints before it stops.
 const FEW: u64 = 4;
+
+// Times that drawn calls must give each number they can.
+const OFTEN: u64 = 100;
 
 /// The group has failed often enough.
 pub struct Stop;
@@ -34,6 +38,22 @@ impl Group {
             Err(Stop)
         }
     }
+
+    /// Checks that an answer is the expected one, and gives whether it was.
+    pub fn compare(
+        &mut self,
+        came: &Answer,
+        expected: &Expected,
+        call: impl FnOnce() -> String,
+    ) -> Result<bool, Stop> {
+        self.check(came.is(expected), || format!("{}\n  {}", call(), came.against(expected)))
+    }
+
+    /// Checks a number that is known beforehand, apart from what is written a second time.
+    pub fn known(&mut self, name: &str, number: u8, came: u8) -> Outcome {
+        self.check(came == number, || format!("{name}\n  expected {number}\n  came {came}"))?;
+        Ok(())
+    }
 }
 
 /// Runs one group from the seed alone, so that a new group leaves the others' draws as they are.
@@ -61,7 +81,7 @@ impl Tally {
     }
 
     /// Prints the tally and checks it: these numbers often enough, and no other.
-    pub fn settle(&self, group: &mut Group, numbers: &[u8], least: u64) -> Outcome {
+    pub fn settle(&self, group: &mut Group, numbers: &[u8]) -> Outcome {
         let calls: u64 = self.seen.values().sum();
         let shown: Vec<String> =
             self.seen.iter().map(|(number, times)| format!("{number} x {times}")).collect();
@@ -69,7 +89,7 @@ impl Tally {
         for number in 0..=u8::MAX {
             let times = self.seen.get(&number).copied().unwrap_or(0);
             let (held, asked) = match numbers.contains(&number) {
-                true => (times >= least, least),
+                true => (times >= OFTEN, OFTEN),
                 false => (times == 0, 0),
             };
             group.check(held, || {

@@ -2,11 +2,19 @@
 //! second time from the documents. A seed may be given as the first argument.
 
 mod bits;
+mod book;
+mod call;
+mod damage;
 mod door;
 mod draw;
 mod envelope;
 mod group;
 mod image;
+mod ledger;
+mod router;
+mod routing;
+mod rules;
+mod sequences;
 mod wire;
 
 use std::process::exit;
@@ -24,7 +32,9 @@ fn main() {
     };
     println!("seed {seed}");
     let (mut checks, mut failed) = (0, 0);
-    for tests in [envelope::GROUPS].concat() {
+    let groups =
+        [envelope::GROUPS, routing::GROUPS, ledger::GROUPS, damage::GROUPS, sequences::GROUPS];
+    for tests in groups.concat() {
         let group = group::run(tests, seed);
         checks += group.checks;
         failed += group.failed;

@@ -2,13 +2,15 @@
 //! A frame is one string of bits, and its fields are taken or laid in the order of appendix A.4.
 
 use crate::bits;
+use crate::rules::{try_rules, Rule};
 use std::collections::HashSet;
+use std::fmt;
 
 pub const MOST_DESTINATIONS: usize = 63;
 pub const MOST_CONTENTS: usize = 1023;
-const HIGHEST_NODE: usize = 1023;
-const HIGHEST_PORT: usize = 63;
-const HIGHEST_SEQ: usize = 32767;
+pub const HIGHEST_NODE: usize = 1023;
+pub const HIGHEST_PORT: usize = 63;
+pub const HIGHEST_SEQ: usize = 32767;
 const LOWEST_PRIORITY: usize = 9;
 
 // Widths in bits (A.4).
@@ -39,8 +41,14 @@ impl Address {
         [self.brigade, self.node, self.port]
     }
 
-    fn in_range(self) -> bool {
+    pub fn in_range(self) -> bool {
         self.brigade <= 255 && self.node <= HIGHEST_NODE && self.port <= HIGHEST_PORT
+    }
+}
+
+impl fmt::Display for Address {
+    fn fmt(&self, f: &mut fmt::Formatter) -> fmt::Result {
+        write!(f, "{}/{}/{}", self.brigade, self.node, self.port)
     }
 }
 
@@ -89,9 +97,6 @@ pub fn version_for(message_type: usize) -> usize {
     }
 }
 
-// A refusal number, and when it applies.
-type Rule<T> = (u8, fn(&T) -> bool);
-
 const FRAME_RULES: [Rule<[u8]>; 3] = [
     (1, |f| asked_size(f).map_or(true, |size| f.len() < size)),
     (2, |f| asked_size(f).map_or(false, |size| f.len() > size)),
@@ -107,14 +112,6 @@ const VALUE_RULES: [Rule<Envelope>; 6] = [
     (8, |e| e.repeats_destination()),
     (9, |e| e.version != version_for(e.message_type)),
 ];
-
-// Gives the first number of the list that applies, as a refusal.
-fn try_rules<T: ?Sized>(rules: &[Rule<T>], subject: &T) -> Result<(), u8> {
-    match rules.iter().find(|(_, applies)| applies(subject)) {
-        Some(&(number, _)) => Err(number),
-        None => Ok(()),
-    }
-}
 
 // Gives the widths of all the fields before the contents.
 fn layout(count: usize) -> Vec<usize> {
