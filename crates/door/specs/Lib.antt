@@ -4,3 +4,4 @@ pub mod Table
 pub mod Leg
 pub mod Ledger
 pub mod Promises
+pub mod Accept

@@ -1,4 +1,5 @@
 // What C calls (include/poztecameh.h): byte images in, numbers and byte images out.
+mod accepting;
 mod addresses;
 mod calls;
 mod envelopes;
@@ -6,6 +7,7 @@ mod ledgers;
 mod legs;
 mod tables;
 
+pub use accepting::pz_accept;
 pub use calls::pz_answer;
 pub use calls::pz_clear;
 pub use calls::pz_tick;

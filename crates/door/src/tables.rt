@@ -83,16 +83,23 @@ pub fn readable_table(b: &[u8]) -> bool
     !any_stray(b, n as usize)
 }
 
+// What stands at a place without an entry.
+pub fn no_entry() -> Entry
+    ensures { λ r. ⌜ r ≡ noEntry ⌝ }
+{
+    Entry {
+        target: Target::Everything,
+        port: Port(0),
+        on: false,
+    }
+}
+
 // The first n entries in an image, and no entry at the other places.
 fn entries_in(b: &[u8], n: usize) -> [Entry; 32]
     requires { ⌜ (n ≤ 32) × (196 ≤ length (now b)) ⌝ }
     ensures { λ r. ⌜ r ≡ row 32 noEntry (heldEntry (now (b .entry))) n ⌝ }
 {
-    let none = Entry {
-        target: Target::Everything,
-        port: Port(0),
-        on: false,
-    };
+    let none = no_entry();
     let mut entries = [none; 32];
     let mut i = 0;
     while i < n {

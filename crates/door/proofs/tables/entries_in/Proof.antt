@@ -17,8 +17,11 @@ Inv-loop b n entries₀ i₀ entries i =
 abbrev μ-loop : tie.MeasureT-loop
 μ-loop b n entries₀ i₀ entries i = n - i
 
+no-entry-requires : tie.Need-no-entry-requires Inv-loop μ-loop
+no-entry-requires c κs = search needs
+
 loop-holds : tie.Need-loop-holds Inv-loop μ-loop
-loop-holds c = (omega arith, sym (row-none 32 noEntry (heldEntry (c .before .args .b .now))))
+loop-holds c = (omega arith, rw (c .no-entry .ensures) (sym (row-none 32 noEntry (heldEntry (c .before .before .args .b .now)))))
 
 mul-entry-in : tie.Need-mul-entry-in Inv-loop μ-loop
 mul-entry-in c = search needs
@@ -45,12 +48,12 @@ loop-again : tie.Need-loop-again Inv-loop μ-loop
 unfolding heldEntry
 loop-again c =
     let l = c .before .before .loop in
-    (omega arith, rw (c .entry-in .ensures, l .inv .1) (row-next 32 noEntry (heldEntry (c .before .before .before .before .args .b .now)) (l .i) (omega arith)))
+    (omega arith, rw (c .entry-in .ensures, l .inv .1) (row-next 32 noEntry (heldEntry (c .before .before .before .before .before .args .b .now)) (l .i) (omega arith)))
 
 returns : tie.Need-returns Inv-loop μ-loop
 returns c =
     let l = c .before .loop in
-    let e : l .i ≡ c .before .before .before .args .n = omega arith in
+    let e : l .i ≡ c .before .before .before .before .args .n = omega arith in
     rw (l .inv .1, e)
 
 pub entries-in-spec : {M : Type 1} → statement M
@@ -59,6 +62,7 @@ entries-in-spec =
     (tie.spec
     Inv-loop
     μ-loop
+    no-entry-requires
     loop-holds
     mul-entry-in
     add-entry-in
