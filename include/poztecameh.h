@@ -18,6 +18,17 @@
  *    8  two destinations are equal
  *    9  the version is not the one of the message type
  *   10  the lent image or buffer is too short
+ *
+ * Refusals of a table and of a ledger, in the order of each call:
+ *   50  a table's count, node or port, or its own address, is out of range, or its image can't be read
+ *   51  a destination or an arrival port is out of range
+ *   52  no entry of the table qualifies
+ *   60  the ledger breaks its rules, or its image can't be read
+ *   61  the ticks are 0
+ *   62  an open leg has the same source and sequence number
+ *   63  there are fewer free places than destinations
+ *   64  there is no such open leg
+ *   65  there is no settled leg at that place
  */
 #ifndef POZTECAMEH_H
 #define POZTECAMEH_H
@@ -45,6 +56,37 @@ uint8_t pz_read(const uint8_t *frame, size_t n, uint8_t *image, size_t m);
  * (an ack byte above 1 is 6), then 10 if the frame does not fit. */
 uint8_t pz_write(const uint8_t *image, size_t m, const uint8_t *contents, size_t k, uint8_t *frame, size_t n,
                  uint16_t *written);
+
+/* The image of a routing table: brigade 1, node 2, count 1, then 32 entries of 6: kind 1 (0 one node, 1 a brigade,
+ * 2 everything), brigade 1, node 2, port 1, on 1. In an entry that counts a kind above 2 or an on above 1 is 50. */
+#define PZ_TABLE_SIZE 196
+
+/* Where a message for a destination goes that came in by the arrival port (0: it began here): *local 1, for this node
+ * at port *out, or *local 0, out by port *out; or 50, 51, 52. */
+uint8_t pz_choose(const uint8_t *table, size_t m, uint8_t brigade, uint16_t node, uint8_t port, uint8_t arrival,
+                  uint8_t *local, uint8_t *out);
+
+/* The image of a ledger: count 1, then 128 legs of 15, oldest first: source 4, destination 4, seq 2, ticks 2, standing 1
+ * (0 open, 1 acknowledged, 2 refused, 3 undeliverable, 4 timed out), reason set 1, code 1. In a leg that counts a
+ * standing above 4, or a set or code other than 0 beside a standing other than 2, is 60. Bytes of places past the
+ * count are neither looked at nor changed, but for those that a call names. */
+#define PZ_LEDGER_SIZE 1921
+
+/* Takes a frame that came in by the arrival port: legs for its destinations, open for so many ticks, are added at the
+ * end, all or none, if it asks for an acknowledgement; *added is how many. 1 to 9, 50, 51, 60, 61, 62, 63. */
+uint8_t pz_accept(uint8_t *ledger, size_t m, const uint8_t *frame, size_t n, uint8_t arrival, const uint8_t *table,
+                  size_t t, uint16_t ticks, uint8_t *added);
+
+/* Settles the open leg that an answer names: who answers, to whom, and the sequence number. nak 0 is an ACK, any other
+ * number a NAK with its reason set and code. 60, 64. */
+uint8_t pz_answer(uint8_t *ledger, size_t m, uint8_t by_brigade, uint16_t by_node, uint8_t by_port, uint8_t to_brigade,
+                  uint16_t to_node, uint8_t to_port, uint16_t seq, uint8_t nak, uint8_t set, uint8_t code);
+
+/* Takes one from the ticks of each open leg; *ended is how many timed out in this tick. 60. */
+uint8_t pz_tick(uint8_t *ledger, size_t m, uint8_t *ended);
+
+/* Removes the settled leg at a place; those after it move down one, and the place that is freed is zeroed. 60, 65. */
+uint8_t pz_clear(uint8_t *ledger, size_t m, size_t place);
 
 #ifdef __cplusplus
 }

@@ -9,12 +9,34 @@ use borrow.Author.Tests.{leb-true, eqb-true, eq-eqb, ne-eqb, le-leb, lt-leb, not
 use Rattle.lists.specs.Places.{anyBelow, sameAt, repeatAt, repeats, elementAt, row}
 use Rattle.lists.proofs.Bools.{and-left, and-right, and-both, both-same}
 use Rattle.lists.proofs.Places.{any-agree, any-never, any-false, repeats-agree, row-at}
-use Rattle.address.specs.Address.{inRange, keyOf}
+use Rattle.address.specs.declared.Seq.{Seq}
+use Rattle.address.specs.declared.Address.{Address}
+use Rattle.address.specs.Address.{inRange, sameAddress, keyOf}
 use Rattle.address.proofs.Laws.{key-same, key-small}
 use Rattle.ledger.specs.declared.Leg.{Leg}
 use Rattle.ledger.specs.declared.Ledger.{Ledger}
 use Rattle.ledger.specs.Rules.{legAt, isOpen, openLeg, alike, ticksRight, legRight, wrongAt, obeys}
 use Rattle.ledger.specs.Keys.{legKey, legKeyAt, sameKey}
+
+-- ---- an open leg with this source, destination and sequence number, from the tests on the way
+
+module _ (source destination : Address) (seq : Seq) (g : Leg) where
+  pub leg-settled : isOpen (g .standing) ≡ false → false ≡ openLeg source destination seq g
+  unfolding openLeg
+  leg-settled a = rw a
+
+  pub leg-from-other : isOpen (g .standing) ≡ true → sameAddress (g .source) source ≡ false → false ≡ openLeg source destination seq g
+  unfolding openLeg
+  leg-from-other a b = rw (a, b)
+
+  module _ (open-leg : isOpen (g .standing) ≡ true) (from : sameAddress (g .source) source ≡ true) where
+    pub leg-to-other : sameAddress (g .destination) destination ≡ false → false ≡ openLeg source destination seq g
+    unfolding openLeg
+    leg-to-other b = rw (open-leg, from, b)
+
+    pub leg-by-number : sameAddress (g .destination) destination ≡ true → eqb (g .seq .0) (seq .0) ≡ openLeg source destination seq g
+    unfolding openLeg
+    leg-by-number b = rw (open-leg, from, b)
 
 -- ---- a leg that is right
 
