@@ -1,5 +1,5 @@
--- Laws of the envelope's image: the stores that make it, and the numbers of pz_read and pz_write, each from the tests on the way.
-use Prim.Native.Nat.{ℕ, _+_, _*_, _-_, _<_, _≤_}
+-- Laws of words and addresses in an image, and of the envelope's image: the stores that make it, and the numbers of pz_read and pz_write, each from the tests on the way.
+use Prim.Native.Nat.{ℕ, _+_, _*_, _-_, _/_, _%_, _<_, _≤_}
 use mathlib.Core.Path.{_≡_, refl, sym, _∙_}
 use mathlib.Core.Bool.{Bool, true, false}
 use mathlib.Core.List.{List, _++_}
@@ -23,11 +23,22 @@ use Rattle.envelope.proofs.Laws.{count-le, contents-at-taken, destinations-take
 use Rattle.envelope_write.specs.declared.Written.{Written}
 use Rattle.envelope_write.specs.Write.{sizeFor, writeRefusal, writeNumber, writeCount, afterOf}
 use Rattle.envelope_write.proofs.Laws.{count-refused, write-agree, after-agree}
-use Rattle.door.specs.Address.{addressBytes}
+use Rattle.door.specs.Address.{addressBytes, addressIn}
 use Rattle.door.specs.Envelope.{fieldBytes, envelopeImage, readNumberFor, imageAfter, fieldsIn, destinationIn, strayAck, writeNumberFor, writtenFor, frameAfter}
+
+-- ---- words and addresses
+
+pub word-back : (x : ℕ) → x / 256 * 256 + x % 256 ≡ x
+word-back x = omega arith
 
 pub length-address : (a : Address) → length (addressBytes a) ≡ 4
 length-address a = refl
+
+-- an address is read from its four bytes, wherever they stand
+pub address-back : (a : Address) (b : List ℕ) (at : ℕ)
+    → getD b at 0 ≡ getD (addressBytes a) 0 0 → getD b (at + 1) 0 ≡ getD (addressBytes a) 1 0
+    → getD b (at + 1 + 1) 0 ≡ getD (addressBytes a) 2 0 → getD b (at + 3) 0 ≡ getD (addressBytes a) 3 0 → addressIn b at ≡ a
+address-back a b at p0 p1 p2 p3 = rw (p0, p1, p2, p3, word-back (a .node .0))
 
 -- ---- pz_read
 

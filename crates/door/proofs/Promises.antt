@@ -1,5 +1,5 @@
 -- The theorem of the door on envelopes: write-undoes-read. An image holds all that the writer looks at.
-use Prim.Native.Nat.{ℕ, _+_, _*_, _/_, _%_, _<_, _≤_}
+use Prim.Native.Nat.{ℕ, _+_, _*_, _<_, _≤_}
 use mathlib.Core.Path.{_≡_, refl, sym, ap, _∙_}
 use mathlib.Core.Bool.{Bool, true, false, cond}
 use mathlib.Core.List.{List, _++_, append-assoc}
@@ -24,19 +24,10 @@ use Rattle.envelope_write.specs.Write.{headOf, midOf, bodyOf, bytesOf, writeRef
 use Rattle.envelope_write.specs.Promises.{WriteUndoesRead as FrameAgain}
 use Rattle.envelope_write.proofs.Laws.{write-agree, after-agree, wrote}
 use Rattle.envelope_write.proofs.Promises.{write-undoes-read as frame-undoes}
-use Rattle.door.specs.Address.{addressBytes, addressIn}
+use Rattle.door.specs.Address.{addressBytes}
 use Rattle.door.specs.Envelope.{fieldBytes, envelopeImage, readNumberFor, imageAfter, fieldsIn, destinationIn}
 use Rattle.door.specs.Promises.{WriteUndoesRead}
-use Rattle.door.proofs.Laws.{length-address, by-writer, buffer-by-writer}
-
-word-back : (x : ℕ) → x / 256 * 256 + x % 256 ≡ x
-word-back x = omega arith
-
--- an address is read from its four bytes, wherever they stand
-address-back : (a : Address) (b : List ℕ) (at : ℕ)
-    → getD b at 0 ≡ getD (addressBytes a) 0 0 → getD b (at + 1) 0 ≡ getD (addressBytes a) 1 0
-    → getD b (at + 1 + 1) 0 ≡ getD (addressBytes a) 2 0 → getD b (at + 3) 0 ≡ getD (addressBytes a) 3 0 → addressIn b at ≡ a
-address-back a b at p0 p1 p2 p3 = rw (p0, p1, p2, p3, word-back (a .node .0))
+use Rattle.door.proofs.Laws.{length-address, word-back, address-back, by-writer, buffer-by-writer}
 
 bit-back : (a : Bool) → eqb (cond a 1 0) 1 ≡ a
 bit-back true = refl

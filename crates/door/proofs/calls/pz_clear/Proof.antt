@@ -1,10 +1,7 @@
 -- `door::calls::pz_clear` meets its contract: an image that can't be read is refused; else the ledger's own clear is put back.
-use mathlib.Core.Path.{_≡_, _∙_, ap}
+use Rattle.door.specs.Ledger.{ledgerIn}
+use Rattle.door.proofs.LedgerLaws.{readable, clear-unread, clear-read}
 use Rattle.lists.proofs.Bools.{told-no, told-yes}
-use Rattle.ledger_calls.specs.declared.Outcome.{Outcome}
-use Rattle.ledger_calls.specs.Clear.{clearOf}
-use Rattle.door.specs.Ledger.{ledgerIn, clearNumberFor, clearImage}
-use Rattle.door.proofs.LedgerLaws.{readable, unread, put-after}
 use borrow.Author.Needs.{needs}
 use Rattle.door.proofs.calls.pz_clear.Statement.{statement}
 use Rattle.door.proofs.calls.pz_clear.Tie as tie
@@ -16,8 +13,7 @@ same-length : tie.Need-same-length
 same-length c = search needs
 
 returns : tie.Need-returns
-unfolding clearNumberFor clearImage
-returns c = unread (c .before .before .before .before .args .ledger .now) _ _ (told-no (c .before .readable-ledger .ensures) (c .if1 .taken))
+returns c = clear-unread (c .before .before .before .before .args .ledger .now) (c .before .before .before .before .args .place) (told-no (c .before .readable-ledger .ensures) (c .if1 .taken))
 
 read-ledger-requires : tie.Need-read-ledger-requires
 read-ledger-requires c κs = told-yes (c .before .before .readable-ledger .ensures) (c .before .if1 .left)
@@ -35,11 +31,9 @@ same-length-2 : tie.Need-same-length-2
 same-length-2 c = search needs
 
 returns-2 : tie.Need-returns-2
-unfolding clearNumberFor clearImage clearOf
 returns-2 c =
-    let b = c .before .before .before .before .before .before .before .before .before .before .before .before .args .ledger .now in
-    let w : c .before .before .before .before .before .clear .result ≡ clearOf (ledgerIn b) (c .before .before .before .before .before .before .before .before .before .before .before .before .args .place) = c .before .before .before .before .before .clear .ensures ∙ rw (c .before .before .before .before .before .before .read-ledger .ensures) in
-    put-after b _ _ (told-yes (c .before .before .before .before .before .before .before .before .before .readable-ledger .ensures) (c .before .before .before .before .before .before .before .before .if1 .left)) (c .before .before .before .before .before .before .read-ledger .ensures) (ap (λ (o : Outcome). o .number) w) (ap (λ (o : Outcome). o .ledger) w) (c .before .before .put-back .ensures)
+    clear-read (c .before .before .before .before .before .before .before .before .before .before .before .before .args .ledger .now) (c .before .before .before .before .before .before .before .before .before .before .before .before .args .place)
+    (told-yes (c .before .before .before .before .before .before .before .before .before .readable-ledger .ensures) (c .before .before .before .before .before .before .before .before .if1 .left)) (c .before .before .before .before .before .before .read-ledger .ensures) (c .before .before .before .before .before .clear .ensures) (c .before .before .put-back .ensures)
 
 pub pz-clear-spec : {M : Type 1} → statement M
 pz-clear-spec =
