@@ -1,17 +1,18 @@
--- Laws of a table's image: what one that can be read is, and what C gets of a choice.
-use Prim.Native.Nat.{ℕ, zero, suc, _≤_}
+-- Laws of a table's image: which bytes are no entry's, what an image that can be read is, and what C gets of a choice.
+use Prim.Native.Nat.{ℕ, zero, suc, _+_, _≤_, _<_}
 use mathlib.Core.Path.{_≡_, refl, ap, _∙_}
 use mathlib.Core.Bool.{Bool, true, false, cond}
 use mathlib.Core.List.{List}
-use lib.ListN.{length}
-use borrow.Author.Tests.{leb-true}
+use lib.Dec.{ltb}
+use lib.ListN.{length, getD}
+use borrow.Author.Tests.{leb-true, lt-ltb, le-ltb}
 use Rattle.lists.specs.Places.{anyBelow}
 use Rattle.lists.specs.Refusals.{unlessRefused}
 use Rattle.address.specs.declared.Port.{Port}
 use Rattle.address.specs.declared.Address.{Address}
 use Rattle.route.specs.declared.Choice.{Choice}
 use Rattle.route.specs.Route.{isOwn, routeRefusal, wayPort, choiceNumber, choiceLocal, choicePort}
-use Rattle.door.specs.Table.{entryCount, strayEntryAt, readableTable, tableIn, chooseNumberFor, localFor, outFor}
+use Rattle.door.specs.Table.{entryCount, strayEntryIn, strayEntryAt, readableTable, tableIn, chooseNumberFor, localFor, outFor}
 use Rattle.door.proofs.LedgerLaws.{all-three}
 
 -- an image that can be read
@@ -24,6 +25,15 @@ bit-unless : (n : ℕ) (t : Bool) → cond {A = ℕ} (unlessRefused n t false) 1
 unfolding unlessRefused
 bit-unless zero t = refl
 bit-unless (suc n) t = refl
+
+module _ (b : List ℕ) (at : ℕ) where
+  pub kind-stray : 2 < getD b at 0 → true ≡ strayEntryIn b at
+  unfolding strayEntryIn
+  kind-stray h = rw (lt-ltb 2 (getD b at 0) h)
+
+  pub on-tells : getD b at 0 ≤ 2 → ltb 1 (getD b (at + 5) 0) ≡ strayEntryIn b at
+  unfolding strayEntryIn
+  on-tells h = rw (le-ltb 2 (getD b at 0) h)
 
 module _ (b : List ℕ) where
   pub readable : readableTable b ≡ true → Readable b
