@@ -9,7 +9,7 @@ use envelope::Fixed;
 use envelope::LONGEST_CONTENTS;
 use envelope::MOST_DESTINATIONS;
 use envelope::Read;
-use envelope_write::Written;
+use lists::Written;
 ghost use mathlib.Core.Path.{_≡_};
 ghost use Prim.Native.Nat.{_+_, _*_, _-_, _≤_};
 ghost use lib.ListN.{length, replicate};
@@ -168,7 +168,7 @@ pub extern "C" fn pz_write(image: &[u8], contents: &[u8], frame: &mut [u8], writ
     let places = places_in(image, e.count as usize);
     let answer = envelope_write::write_frame(e, places, contents, frame);
     let Written::Wrote(n) = answer else {
-        return envelope_write::write_number(answer);
+        return lists::write_number(answer);
     };
     *written = n as u16;
     0

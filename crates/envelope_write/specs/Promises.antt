@@ -9,7 +9,7 @@ use Rattle.address.specs.Address.{zeroAddress}
 use Rattle.envelope.specs.declared.Fixed.{Fixed}
 use Rattle.envelope.specs.declared.Read.the-variants.{Envelope}
 use Rattle.envelope.specs.Read.{readOf, contentsOf, destinationsOf}
-use Rattle.envelope_write.specs.declared.Written.the-variants.{Wrote}
+use Rattle.lists.specs.declared.Written.the-variants.{Wrote}
 use Rattle.envelope_write.specs.Write.{writeOf, afterOf, carried}
 
 -- reading undoes writing: of the n bytes that were written, the readers give the values back, apart from what the writer does not look at
