@@ -18,8 +18,9 @@ use Rattle.address.specs.Address.{zeroAddress}
 use Rattle.envelope.specs.declared.Fixed.{Fixed}
 use Rattle.envelope.specs.Frame.{partAt, countOf, fieldsOf, destinationAt}
 use Rattle.envelope.specs.Refusal.{outside, refusalOf}
-use Rattle.envelope.specs.Read.{destinationsOf}
-use Rattle.envelope.proofs.Laws.{count-le, contents-at-taken, destinations-taken}
+use Rattle.envelope_read.specs.Read.{destinationsOf}
+use Rattle.envelope.proofs.Laws.{count-le}
+use Rattle.envelope_read.proofs.Laws.{contents-at-taken, destinations-taken}
 use Rattle.lists.specs.declared.Written.{Written}
 use Rattle.envelope_write.specs.Write.{sizeFor, writeRefusal, afterOf}
 use Rattle.lists.specs.Writing.{writeNumber, writeCount}

@@ -14,11 +14,11 @@ use Rattle.lists.proofs.Refusals.{taken}
 use Rattle.address.specs.declared.Address.{Address}
 use Rattle.address.specs.Address.{zeroAddress, sameAddress}
 use Rattle.envelope.specs.declared.Fixed.{Fixed}
-use Rattle.envelope.specs.declared.Read.the-variants.{Envelope}
+use Rattle.envelope_read.specs.declared.Read.the-variants.{Envelope}
 use Rattle.envelope.specs.Frame.{fieldsOf}
 use Rattle.envelope.specs.Refusal.{mostDestinations, longestContents, lowestPriority, outside, outOfRange, wrongVersion, valueRefusal}
-use Rattle.envelope.specs.Read.{readOf, contentsOf, destinationsOf}
-use Rattle.envelope.proofs.Laws.{read-envelope}
+use Rattle.envelope_read.specs.Read.{readOf, contentsOf, destinationsOf}
+use Rattle.envelope_read.proofs.Laws.{read-envelope}
 use Rattle.lists.specs.declared.Written.the-variants.{Wrote}
 use Rattle.envelope_write.specs.Write.{bytesOf, sizeFor, writeRefusal, writeOf, afterOf}
 use Rattle.envelope_write.specs.Promises.{ReadUndoesWrite, WriteUndoesRead, writerNumbers}
