@@ -1,140 +1,69 @@
--- Laws of words and addresses in an image, and of the envelope's image: the stores that make it, and the numbers of pz_read and pz_write, each from the tests on the way.
-use Prim.Native.Nat.{ℕ, _+_, _*_, _-_, _/_, _%_, _<_, _≤_}
-use mathlib.Core.Path.{_≡_, refl, sym, _∙_}
-use mathlib.Core.Bool.{Bool, true, false}
-use mathlib.Core.List.{List, _++_}
-use native.Mathlib.Omega.{arith}
-use lib.Dec.{ltb}
-use lib.ListN.{length, getD, drop, replicate}
-use lib.Seq.{sets}
-use borrow.Author.Tests.{lt-ltb, le-ltb}
-use Rattle.lists.specs.Places.{elementAt, row, joined}
-use Rattle.lists.specs.Refusals.{refuse, unlessRefused}
-use Rattle.lists.proofs.Places.{Agree, row-at, row-past, length-joined, joined-padded}
-use Rattle.lists.proofs.Stores.{sets-append}
-use Rattle.lists.proofs.Refusals.{or-refused, refused}
+-- What C gets of a call, from what each step of it gives.
+use Prim.Native.Nat.{ℕ}
+use mathlib.Core.Path.{_≡_, ap, _∙_}
+use mathlib.Core.Bool.{cond}
+use mathlib.Core.List.{List}
+use Rattle.address.specs.declared.Port.{Port}
+use Rattle.address.specs.declared.Seq.{Seq}
 use Rattle.address.specs.declared.Address.{Address}
-use Rattle.address.specs.Address.{zeroAddress}
-use Rattle.envelope.specs.declared.Fixed.{Fixed}
-use Rattle.envelope.specs.Frame.{partAt, countOf, fieldsOf, destinationAt}
-use Rattle.envelope.specs.Refusal.{outside, refusalOf}
-use Rattle.envelope_read.specs.Read.{destinationsOf}
-use Rattle.envelope.proofs.Laws.{count-le}
-use Rattle.envelope_read.proofs.Laws.{contents-at-taken, destinations-taken}
-use Rattle.lists.specs.declared.Written.{Written}
-use Rattle.envelope_write.specs.Write.{sizeFor, writeRefusal, afterOf}
-use Rattle.lists.specs.Writing.{writeNumber, writeCount}
-use Rattle.envelope_write.proofs.Laws.{count-refused, write-agree, after-agree}
-use Rattle.door.specs.Address.{addressBytes, addressIn}
-use Rattle.door.specs.Envelope.{fieldBytes, envelopeImage, readNumberFor, imageAfter, fieldsIn, destinationIn, strayAck, writeNumberFor, writtenFor, frameAfter}
+use Rattle.route.specs.declared.Choice.{Choice}
+use Rattle.route.specs.declared.Table.{Table}
+use Rattle.route.specs.Route.{choiceNumber, choiceLocal, choicePort, chooseOf}
+use Rattle.ledger.specs.declared.Ledger.{Ledger}
+use Rattle.ledger_calls.specs.declared.Reply.{Reply}
+use Rattle.ledger_calls.specs.declared.Outcome.{Outcome}
+use Rattle.ledger_calls.specs.declared.Ticked.{Ticked}
+use Rattle.ledger_calls.specs.Answer.{answerOf}
+use Rattle.ledger_calls.specs.Tick.{tickOf}
+use Rattle.ledger_calls.specs.Clear.{clearOf}
+use Rattle.accept.specs.declared.Accepted.{Accepted}
+use Rattle.accept.specs.Accept.{acceptOf}
+use Rattle.table_image.specs.Table.{tableOf}
+use Rattle.ledger_image.specs.Ledger.{ledgerOf, ledgerAfter}
+use Rattle.door.specs.Calls.{chooseFor, chooseNumberFor, localFor, outFor, answerFor, answerImage, tickFor, tickImage, clearFor, clearImage, acceptFor, acceptImage}
 
--- ---- words and addresses
+-- what C gets of a choice: its number and the two numbers beside it
+abbrev pub Says : List ℕ → Address → Port → Choice → Type 0
+Says b d arrival c = (choiceNumber c ≡ chooseNumberFor b d arrival) × (cond (choiceLocal c) 1 0 ≡ localFor b d arrival) × (choicePort c ≡ outFor b d arrival)
 
-pub word-back : (x : ℕ) → x / 256 * 256 + x % 256 ≡ x
-word-back x = omega arith
+pub choose-told : (b : List ℕ) (d : Address) (arrival : Port) {t : Table} {c : Choice} → t ≡ tableOf b → c ≡ chooseOf t d arrival → Says b d arrival c
+unfolding chooseFor chooseNumberFor localFor outFor
+choose-told b d arrival {t} {c} e f =
+    let w : c ≡ chooseOf (tableOf b) d arrival = rw e at f in
+    (ap choiceNumber w, ap (λ (x : Choice). cond {A = ℕ} (choiceLocal x) 1 0) w, ap choicePort w)
 
-pub length-address : (a : Address) → length (addressBytes a) ≡ 4
-length-address a = refl
+-- what is put back: the number r, and the image m, with the legs that counted in l written
+abbrev Put : List ℕ → Ledger → ℕ → Ledger → ℕ → List ℕ → Type 0
+Put b l number after r m = (r ≡ number) × (m ≡ ledgerAfter b number after (l .count))
 
--- an address is read from its four bytes, wherever they stand
-pub address-back : (a : Address) (b : List ℕ) (at : ℕ)
-    → getD b at 0 ≡ getD (addressBytes a) 0 0 → getD b (at + 1) 0 ≡ getD (addressBytes a) 1 0
-    → getD b (at + 1 + 1) 0 ≡ getD (addressBytes a) 2 0 → getD b (at + 3) 0 ≡ getD (addressBytes a) 3 0 → addressIn b at ≡ a
-address-back a b at p0 p1 p2 p3 = rw (p0, p1, p2, p3, word-back (a .node .0))
+pub answer-put : (b : List ℕ) (by to : Address) (seq : Seq) (reply : Reply) {l : Ledger} {p : Reply} {o : Outcome} {r : ℕ} {m : List ℕ}
+    → l ≡ ledgerOf b → p ≡ reply → o ≡ answerOf l by to seq p → Put b l (o .number) (o .ledger) r m
+    → (r ≡ answerFor b by to seq reply .number) × (m ≡ answerImage b by to seq reply)
+unfolding answerFor answerImage
+answer-put b by to seq reply {l} {p} {o} e q f g =
+    let w : o ≡ answerOf (ledgerOf b) by to seq reply = rw (e, q) at f in
+    (g .0 ∙ ap (λ (x : Outcome). x .number) w, g .1 ∙ rw (w, e))
 
--- ---- pz_read
+pub clear-put : (b : List ℕ) (place : ℕ) {l : Ledger} {o : Outcome} {r : ℕ} {m : List ℕ}
+    → l ≡ ledgerOf b → o ≡ clearOf l place → Put b l (o .number) (o .ledger) r m
+    → (r ≡ clearFor b place .number) × (m ≡ clearImage b place)
+unfolding clearFor clearImage
+clear-put b place {l} {o} e f g =
+    let w : o ≡ clearOf (ledgerOf b) place = rw e at f in
+    (g .0 ∙ ap (λ (x : Outcome). x .number) w, g .1 ∙ rw (w, e))
 
--- the places of an accepted frame: its destinations, and then zeros
-places-bytes : (f : List ℕ) → refusalOf f ≡ 0
-    → joined addressBytes (elementAt zeroAddress (destinationsOf f .places)) 63 ≡ joined addressBytes (destinationAt (drop partAt f)) (countOf f) ++ replicate (267 - (15 + 4 * countOf f)) 0
-places-bytes f z =
-    let n = countOf f in
-    let d = destinationAt (drop partAt f) in
-    let r = row 63 zeroAddress d n in
-    let h : n + (63 - n) ≡ 63 = omega (arith, count-le f) in
-    let k : 4 * (63 - n) ≡ 267 - (15 + 4 * n) = omega (arith, count-le f) in
-    let e = joined-padded addressBytes 4 zeroAddress d (elementAt zeroAddress r) n (λ i l. sym (row-at 63 zeroAddress d n i l)) (row-past 63 zeroAddress d n) refl (63 - n) in
-    rw (destinations-taken f z) (rw (h, k) at e)
+pub tick-put : (b : List ℕ) {l : Ledger} {t : Ticked} {r : ℕ} {m : List ℕ}
+    → l ≡ ledgerOf b → t ≡ tickOf l → Put b l (t .number) (t .ledger) r m
+    → (r ≡ tickFor b .number) × (t .ended ≡ tickFor b .ended) × (m ≡ tickImage b)
+unfolding tickFor tickImage
+tick-put b {l} {t} e f g =
+    let w : t ≡ tickOf (ledgerOf b) = rw e at f in
+    (g .0 ∙ ap (λ (x : Ticked). x .number) w, ap (λ (x : Ticked). x .ended) w, g .1 ∙ rw (w, e))
 
--- the three runs of stores that make an image
-image-puts : (b : List ℕ) (e : Fixed) (at n : ℕ) (d : ℕ → Address) (zs : List ℕ)
-    → sets (sets (sets b 0 (fieldBytes e at)) 15 (joined addressBytes d n)) (15 + 4 * n) zs ≡ sets b 0 (fieldBytes e at ++ (joined addressBytes d n ++ zs))
-unfolding fieldBytes
-image-puts b e at n d zs =
-    let x = fieldBytes e at in
-    let y = joined addressBytes d n in
-    let m : 15 + 4 * n ≡ 15 + length y = rw (length-joined addressBytes 4 length-address d n) refl in
-    sets-append y (sets b 0 x) 15 zs (15 + 4 * n) m ∙ sets-append x b 0 (y ++ zs) 15 refl
-
-module _ (f b : List ℕ) where
-  pub read-refused : {k : ℕ} → k ≡ refusalOf f → (refusalOf f ≡ 0 → ⊥) → (k ≡ readNumberFor f (length b)) × (b ≡ imageAfter f b)
-  unfolding readNumberFor imageAfter
-  read-refused {k} p h =
-      let q : readNumberFor f (length b) ≡ refusalOf f = or-refused (refusalOf f) _ h in
-      (p ∙ sym q, rw q (sym (refused (sets b 0 (envelopeImage f)) b (refusalOf f) h)))
-
-  pub read-short : refusalOf f ≡ 0 → length b < 267 → (10 ≡ readNumberFor f (length b)) × (b ≡ imageAfter f b)
-  unfolding readNumberFor imageAfter unlessRefused
-  read-short z h = (rw (z, lt-ltb (length b) 267 h), rw (z, lt-ltb (length b) 267 h))
-
-  pub read-done : refusalOf f ≡ 0 → 267 ≤ length b → (e : Fixed) → e ≡ fieldsOf f
-      → (0 ≡ readNumberFor f (length b))
-      × (sets (sets (sets b 0 (fieldBytes e (9 + 3 * e .count))) 15 (joined addressBytes (destinationAt (drop partAt f)) (e .count))) (15 + 4 * e .count) (replicate (267 - (15 + 4 * e .count)) 0) ≡ imageAfter f b)
-  unfolding readNumberFor imageAfter unlessRefused envelopeImage fieldsOf
-  read-done z h e p = (
-    rw (z, le-ltb (length b) 267 h),
-    rw (z, le-ltb (length b) 267 h, p, image-puts b (fieldsOf f) (9 + 3 * countOf f) (countOf f) (destinationAt (drop partAt f)) (replicate (267 - (15 + 4 * countOf f)) 0), contents-at-taken f z, places-bytes f z),
-  )
-
--- ---- pz_write
-
--- what C gets, of the image b, the contents l and the buffer out: the number r, the bytes written w and the buffer o
-abbrev pub Says : List ℕ → List ℕ → List ℕ → ℕ → ℕ → List ℕ → Type 0
-Says b l out r w o = (r ≡ writeNumberFor b (length l) (length out)) × (w ≡ writtenFor b (length l) (length out)) × (o ≡ frameAfter b l out)
-
-module _ (b l out : List ℕ) where
-  -- a refusal, whichever it is
-  says-refused : {k : ℕ} → k ≡ writeNumberFor b (length l) (length out) → (k ≡ 0 → ⊥) → Says b l out k 0 out
-  unfolding writtenFor frameAfter
-  says-refused {k} p h = (p, rw (← p) (sym (refused _ 0 k h)), rw (← p) (sym (refused _ out k h)))
-
-  pub write-image-short : length b < 267 → Says b l out 10 0 out
-  unfolding writeNumberFor
-  write-image-short h = says-refused (rw (lt-ltb (length b) 267 h)) (λ z. omega arith)
-
-  stray-some : (x y : Bool) → refuse 4 x (refuse 5 y 6) ≡ 0 → ⊥
-  stray-some true y h = omega arith
-  stray-some false true h = omega arith
-  stray-some false false h = omega arith
-
-  module _ (room : 267 ≤ length b) where
-    pub write-stray : 1 < getD b 9 0 → {k : ℕ} → k ≡ strayAck (fieldsIn b .count) (length l) → Says b l out k 0 out
-    unfolding writeNumberFor strayAck
-    write-stray h p =
-        says-refused (p ∙ rw (le-ltb (length b) 267 room, lt-ltb 1 (getD b 9 0) h)) (λ z. stray-some (outside 63 (fieldsIn b .count)) (ltb 1023 (length l)) (sym p ∙ z))
-
-    module _ (bit : getD b 9 0 ≤ 1) where
-      -- then the writer's own number and buffer are what C gets
-      pub by-writer : writeNumberFor b (length l) (length out) ≡ writeRefusal (fieldsIn b) (destinationIn b) (length l) (length out)
-      unfolding writeNumberFor
-      by-writer = rw (le-ltb (length b) 267 room, le-ltb 1 (getD b 9 0) bit)
-
-      pub buffer-by-writer : frameAfter b l out ≡ afterOf (fieldsIn b) (destinationIn b) l out
-      unfolding frameAfter afterOf
-      buffer-by-writer = rw by-writer
-
-      pub write-many : 63 < fieldsIn b .count → Says b l out 4 0 out
-      write-many h = says-refused (count-refused _ _ _ _ h ∙ sym by-writer) (λ z. omega arith)
-
-      -- the writer's own answer, of the fields and the places in the image, is what C gets
-      pub write-done : (places : List Address) (a : Written) {r w : ℕ} {o : List ℕ} → places ≡ row 63 zeroAddress (destinationIn b) (fieldsIn b .count)
-          → writeNumber a ≡ writeRefusal (fieldsIn b) (elementAt zeroAddress places) (length l) (length out)
-          → writeCount a ≡ unlessRefused (writeRefusal (fieldsIn b) (elementAt zeroAddress places) (length l) (length out)) (sizeFor (fieldsIn b) (length l)) 0
-          → o ≡ afterOf (fieldsIn b) (elementAt zeroAddress places) l out
-          → r ≡ writeNumber a → w ≡ writeCount a → Says b l out r w o
-      unfolding writtenFor
-      write-done places a q number count buffer hr hw =
-          let e = fieldsIn b in
-          let g : Agree (elementAt zeroAddress places) (destinationIn b) (e .count) = λ i h. rw q (sym (row-at 63 zeroAddress (destinationIn b) (e .count) i h)) in
-          let t : writeRefusal e (elementAt zeroAddress places) (length l) (length out) ≡ writeNumberFor b (length l) (length out) = write-agree e _ _ g _ _ ∙ sym by-writer in
-          (hr ∙ number ∙ t, hw ∙ count ∙ rw t, buffer ∙ after-agree e _ _ g l out ∙ sym buffer-by-writer)
+pub accept-put : (b f : List ℕ) (arrival : Port) (table : List ℕ) (ticks : ℕ) {l : Ledger} {t : Table} {a : Accepted} {r : ℕ} {m : List ℕ}
+    → l ≡ ledgerOf b → t ≡ tableOf table → a ≡ acceptOf l f arrival t ticks → Put b (a .ledger) (a .number) (a .ledger) r m
+    → (r ≡ acceptFor b f arrival table ticks .number) × (a .added ≡ acceptFor b f arrival table ticks .added) × (m ≡ acceptImage b f arrival table ticks)
+unfolding acceptFor acceptImage
+accept-put b f arrival table ticks {l} {t} {a} e q h g =
+    let w : a ≡ acceptOf (ledgerOf b) f arrival (tableOf table) ticks = rw (e, q) at h in
+    (g .0 ∙ ap (λ (x : Accepted). x .number) w, ap (λ (x : Accepted). x .added) w, g .1 ∙ rw w)

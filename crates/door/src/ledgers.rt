@@ -1,98 +1,96 @@
-// The image of a ledger, 1,921 bytes: whether it can be read, the ledger in it, and that ledger put back after a call.
-use crate::legs::leg_bytes;
-use crate::legs::leg_in;
-use crate::legs::stray_leg;
-use ledger::Ledger;
-use ledger::Leg;
-use ledger::MOST_LEGS;
+// The calls over the image of a ledger: the ledger that it stands for answers, and what that gives is put back.
+use address::Address;
+use address::Node;
+use address::Port;
+use address::Seq;
+use ledger_calls::Reply;
 ghost use mathlib.Core.Path.{_≡_};
-ghost use mathlib.Core.Bool.{true};
-ghost use Prim.Native.Nat.{_≤_};
-ghost use lib.ListN.{length};
-ghost use Rattle.lists.specs.Places.{anyBelow, row};
-ghost use Rattle.ledger.specs.Rules.{noLeg};
-ghost use Rattle.door.specs.Ledger.{heldLeg, strayLegAt, readableLedger, ledgerIn, withLegs, ledgerAfter};
+ghost use Rattle.image.specs.Address.{addressOf};
+ghost use Rattle.door.specs.Calls.{replyOf, answerFor, answerImage, tickFor, tickImage, clearFor, clearImage, acceptFor, acceptImage};
 
-const LEDGER_SIZE: usize = 1921;
-
-// Whether one of the first n places holds bytes that are no leg's.
-fn any_stray(b: &[u8], n: usize) -> bool
-    requires { ⌜ (n ≤ 128) × (1921 ≤ length (now b)) ⌝ }
-    ensures { λ r. ⌜ r ≡ anyBelow (strayLegAt (now (b .entry))) n ⌝ }
+// Takes a frame that came in by the arrival port; `added` is how many legs were added.
+#[no_mangle]
+pub extern "C" fn pz_accept(
+    ledger: &mut [u8],
+    frame: &[u8],
+    arrival: u8,
+    table: &[u8],
+    ticks: u16,
+    added: &mut u8,
+) -> u8
+    ensures { λ r. ⌜ (r ≡ acceptFor (now (ledger .entry)) (now (frame .entry)) (record { 0 = arrival }) (now (table .entry)) ticks .number) × (now (added .exit) ≡ acceptFor (now (ledger .entry)) (now (frame .entry)) (record { 0 = arrival }) (now (table .entry)) ticks .added) × (now (ledger .exit) ≡ acceptImage (now (ledger .entry)) (now (frame .entry)) (record { 0 = arrival }) (now (table .entry)) ticks) ⌝ }
 {
-    let mut i = 0;
-    while i < n {
-        if stray_leg(b, 1 + 15 * i) {
-            return true;
-        }
-        i += 1;
-    }
-    false
+    let t = table_image::table_of(table);
+    let l = ledger_image::ledger_of(ledger);
+    let after = accept::accept(l, frame, Port(arrival), t, ticks);
+    *added = after.added;
+    let m = after.ledger;
+    ledger_image::put_back(ledger, after.number, m, m.count)
 }
 
-// Whether the image of a ledger can be read.
-pub fn readable_ledger(b: &[u8]) -> bool
-    ensures { λ r. ⌜ r ≡ readableLedger (now (b .entry)) ⌝ }
+// The reply that three numbers of a call stand for.
+fn reply_of(nak: u8, set: u8, code: u8) -> Reply
+    ensures { λ r. ⌜ r ≡ replyOf nak set code ⌝ }
 {
-    if b.len() < LEDGER_SIZE {
-        return false;
+    if nak == 0 {
+        return Reply::Ack;
     }
-    let n = b[0];
-    if MOST_LEGS < n {
-        return false;
-    }
-    !any_stray(b, n as usize)
+    Reply::Nak(set, code)
 }
 
-// The first n legs in an image, and no leg at the other places.
-fn legs_in(b: &[u8], n: usize) -> [Leg; 128]
-    requires { ⌜ (n ≤ 128) × (1921 ≤ length (now b)) ⌝ }
-    ensures { λ r. ⌜ r ≡ row 128 noLeg (heldLeg (now (b .entry))) n ⌝ }
+// Settles the open leg that an answer names.
+#[no_mangle]
+pub extern "C" fn pz_answer(
+    ledger: &mut [u8],
+    by_brigade: u8,
+    by_node: u16,
+    by_port: u8,
+    to_brigade: u8,
+    to_node: u16,
+    to_port: u8,
+    seq: u16,
+    nak: u8,
+    set: u8,
+    code: u8,
+) -> u8
+    ensures { λ r. ⌜ (r ≡ answerFor (now (ledger .entry)) (addressOf «by_brigade» «by_node» «by_port») (addressOf «to_brigade» «to_node» «to_port») (record { 0 = seq }) (replyOf nak set code) .number) × (now (ledger .exit) ≡ answerImage (now (ledger .entry)) (addressOf «by_brigade» «by_node» «by_port») (addressOf «to_brigade» «to_node» «to_port») (record { 0 = seq }) (replyOf nak set code)) ⌝ }
 {
-    let none = ledger::no_leg();
-    let mut legs = [none; 128];
-    let mut i = 0;
-    while i < n {
-        let g = leg_in(b, 1 + 15 * i);
-        legs[i] = g;
-        i += 1;
-    }
-    legs
+    let l = ledger_image::ledger_of(ledger);
+    let by = Address {
+        brigade: by_brigade,
+        node: Node(by_node),
+        port: Port(by_port),
+    };
+    let to = Address {
+        brigade: to_brigade,
+        node: Node(to_node),
+        port: Port(to_port),
+    };
+    let reply = reply_of(nak, set, code);
+    let after = ledger_calls::answer(l, by, to, Seq(seq), reply);
+    let m = after.ledger;
+    ledger_image::put_back(ledger, after.number, m, l.count)
 }
 
-// The ledger in an image that can be read.
-pub fn read_ledger(b: &[u8]) -> Ledger
-    requires { ⌜ readableLedger (now b) ≡ true ⌝ }
-    ensures { λ r. ⌜ r ≡ ledgerIn (now (b .entry)) ⌝ }
+// One tick for every leg; `ended` is how many timed out.
+#[no_mangle]
+pub extern "C" fn pz_tick(ledger: &mut [u8], ended: &mut u8) -> u8
+    ensures { λ r. ⌜ (r ≡ tickFor (now (ledger .entry)) .number) × (now (ended .exit) ≡ tickFor (now (ledger .entry)) .ended) × (now (ledger .exit) ≡ tickImage (now (ledger .entry))) ⌝ }
 {
-    let n = b[0];
-    let legs = legs_in(b, n as usize);
-    Ledger { count: n, legs }
+    let l = ledger_image::ledger_of(ledger);
+    let after = ledger_calls::tick(l);
+    *ended = after.ended;
+    let m = after.ledger;
+    ledger_image::put_back(ledger, after.number, m, l.count)
 }
 
-// The count and the first n legs are written.
-fn put_legs(b: &mut [u8], l: Ledger, n: u8)
-    requires { ⌜ (n ≤ 128) × (1921 ≤ length (now b)) ⌝ }
-    ensures { λ _. ⌜ now (b .exit) ≡ withLegs (now (b .entry)) l n ⌝ }
+// Removes the settled leg at a place.
+#[no_mangle]
+pub extern "C" fn pz_clear(ledger: &mut [u8], place: usize) -> u8
+    ensures { λ r. ⌜ (r ≡ clearFor (now (ledger .entry)) place .number) × (now (ledger .exit) ≡ clearImage (now (ledger .entry)) place) ⌝ }
 {
-    b[0] = l.count;
-    let m = n as usize;
-    let mut i: usize = 0;
-    while i < m {
-        let g = l.legs[i];
-        let bytes = leg_bytes(g);
-        lists::put_all(b, 1 + 15 * i, &bytes);
-        i += 1;
-    }
-}
-
-// After a call that gave this number and this ledger: a refusal leaves the image, else the first n legs are written. Gives the number.
-pub fn put_back(b: &mut [u8], number: u8, l: Ledger, n: u8) -> u8
-    requires { ⌜ (n ≤ 128) × (1921 ≤ length (now b)) ⌝ }
-    ensures { λ r. ⌜ (r ≡ number) × (now (b .exit) ≡ ledgerAfter (now (b .entry)) number l n) ⌝ }
-{
-    if number == 0 {
-        put_legs(b, l, n);
-    }
-    number
+    let l = ledger_image::ledger_of(ledger);
+    let after = ledger_calls::clear(l, place);
+    let m = after.ledger;
+    ledger_image::put_back(ledger, after.number, m, l.count)
 }

@@ -1,130 +1,11 @@
-// The image of a routing table, 196 bytes: whether it can be read, the table in it, and the call over it.
+// The next route, by the image of a table.
 use address::Address;
 use address::Node;
 use address::Port;
 use route::Choice;
-use route::Entry;
-use route::MOST_ENTRIES;
-use route::Table;
-use route::Target;
 ghost use mathlib.Core.Path.{_≡_};
-ghost use mathlib.Core.Bool.{true};
-ghost use Prim.Native.Nat.{_+_, _≤_};
-ghost use lib.ListN.{length};
-ghost use Rattle.lists.specs.Places.{anyBelow, row};
-ghost use Rattle.route.specs.Route.{noEntry};
-ghost use Rattle.door.specs.Address.{addressOf};
-ghost use Rattle.door.specs.Table.{targetOf, entryIn, strayEntryIn, heldEntry, strayEntryAt, readableTable, tableIn, chooseNumberFor, localFor, outFor};
-
-const TABLE_SIZE: usize = 196;
-
-// The target of a kind.
-fn target_of(kind: u8, brigade: u8, node: u16) -> Target
-    ensures { λ r. ⌜ r ≡ targetOf kind brigade node ⌝ }
-{
-    match kind {
-        0 => Target::One(brigade, Node(node)),
-        1 => Target::Brigade(brigade),
-        _ => Target::Everything,
-    }
-}
-
-// The entry whose 6 bytes begin at a place.
-fn entry_in(b: &[u8], at: usize) -> Entry
-    requires { ⌜ at + 6 ≤ length (now b) ⌝ }
-    ensures { λ r. ⌜ r ≡ entryIn (now (b .entry)) at ⌝ }
-{
-    let node = lists::word_at(b, at + 2);
-    let target = target_of(b[at], b[at + 1], node);
-    Entry {
-        target,
-        port: Port(b[at + 4]),
-        on: b[at + 5] == 1,
-    }
-}
-
-// Whether the 6 bytes that begin at a place are no entry's.
-fn stray_entry(b: &[u8], at: usize) -> bool
-    requires { ⌜ at + 6 ≤ length (now b) ⌝ }
-    ensures { λ r. ⌜ r ≡ strayEntryIn (now (b .entry)) at ⌝ }
-{
-    if 2 < b[at] {
-        return true;
-    }
-    1 < b[at + 5]
-}
-
-// Whether one of the first n places holds bytes that are no entry's.
-fn any_stray(b: &[u8], n: usize) -> bool
-    requires { ⌜ (n ≤ 32) × (196 ≤ length (now b)) ⌝ }
-    ensures { λ r. ⌜ r ≡ anyBelow (strayEntryAt (now (b .entry))) n ⌝ }
-{
-    let mut i = 0;
-    while i < n {
-        if stray_entry(b, 4 + 6 * i) {
-            return true;
-        }
-        i += 1;
-    }
-    false
-}
-
-// Whether the image of a table can be read.
-pub fn readable_table(b: &[u8]) -> bool
-    ensures { λ r. ⌜ r ≡ readableTable (now (b .entry)) ⌝ }
-{
-    if b.len() < TABLE_SIZE {
-        return false;
-    }
-    let n = b[3];
-    if MOST_ENTRIES < n {
-        return false;
-    }
-    !any_stray(b, n as usize)
-}
-
-// What stands at a place without an entry.
-pub fn no_entry() -> Entry
-    ensures { λ r. ⌜ r ≡ noEntry ⌝ }
-{
-    Entry {
-        target: Target::Everything,
-        port: Port(0),
-        on: false,
-    }
-}
-
-// The first n entries in an image, and no entry at the other places.
-fn entries_in(b: &[u8], n: usize) -> [Entry; 32]
-    requires { ⌜ (n ≤ 32) × (196 ≤ length (now b)) ⌝ }
-    ensures { λ r. ⌜ r ≡ row 32 noEntry (heldEntry (now (b .entry))) n ⌝ }
-{
-    let none = no_entry();
-    let mut entries = [none; 32];
-    let mut i = 0;
-    while i < n {
-        let e = entry_in(b, 4 + 6 * i);
-        entries[i] = e;
-        i += 1;
-    }
-    entries
-}
-
-// The table in an image that can be read.
-pub fn read_table(b: &[u8]) -> Table
-    requires { ⌜ readableTable (now b) ≡ true ⌝ }
-    ensures { λ r. ⌜ r ≡ tableIn (now (b .entry)) ⌝ }
-{
-    let n = b[3];
-    let node = lists::word_at(b, 1);
-    let entries = entries_in(b, n as usize);
-    Table {
-        brigade: b[0],
-        node: Node(node),
-        count: n,
-        entries,
-    }
-}
+ghost use Rattle.image.specs.Address.{addressOf};
+ghost use Rattle.door.specs.Calls.{chooseNumberFor, localFor, outFor};
 
 // Where a message for the destination goes that came in by the arrival port: `local` 1, for this node at port `out`, or 0, out by port `out`.
 #[no_mangle]
@@ -141,10 +22,7 @@ pub extern "C" fn pz_choose(
 {
     *local = 0;
     *out = 0;
-    if !readable_table(table) {
-        return 50;
-    }
-    let t = read_table(table);
+    let t = table_image::table_of(table);
     let d = Address {
         brigade,
         node: Node(node),

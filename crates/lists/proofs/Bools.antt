@@ -95,3 +95,10 @@ pub both-same : (x y : Bool) → (x ≡ true → y ≡ true) → (y ≡ true →
 both-same true y f g = sym (f refl)
 both-same false true f g = g refl
 both-same false false f g = refl
+
+-- three tests passed, the third of which says no
+pub all-three : (p q stray : Bool) → (p && q && not stray) ≡ true → (p ≡ true) × ((q ≡ true) × (stray ≡ false))
+all-three true true false h = (refl, (refl, refl))
+all-three true true true h = absurd (true≢false (sym h))
+all-three true false stray h = absurd (true≢false (sym h))
+all-three false q stray h = absurd (true≢false (sym h))

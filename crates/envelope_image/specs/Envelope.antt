@@ -1,0 +1,89 @@
+-- What C gets of pz_read and pz_write, and the image of an envelope, 267 bytes (include/poztecameh.h): source 4, count 1, length 2, priority 1, version 1,
+-- ack 1, seq 2, type 1, offset of the contents in the frame 2, then 63 destinations of 4.
+use Prim.Native.Nat.{ℕ, _+_, _*_}
+use mathlib.Core.Bool.{cond}
+use mathlib.Core.List.{List, [], _∷_, _++_}
+use lib.Dec.{eqb, ltb}
+use lib.ListN.{length, getD, drop}
+use lib.Seq.{sets}
+use Rattle.lists.specs.Bytes.{wordAt, wordBytes}
+use Rattle.lists.specs.Places.{elementAt, joined}
+use Rattle.lists.specs.Refusals.{refuse, orElse, unlessRefused}
+use Rattle.address.specs.declared.Address.{Address}
+use Rattle.address.specs.Address.{zeroAddress}
+use Rattle.envelope.specs.declared.Fixed.{Fixed}
+use Rattle.envelope.specs.Frame.{fieldsOf}
+use Rattle.envelope.specs.Refusal.{mostDestinations, longestContents, outside, refusalOf}
+use Rattle.envelope_read.specs.Read.{contentsAt, destinationsOf}
+use Rattle.envelope_write.specs.Write.{bytesOf, sizeFor, writeRefusal}
+use Rattle.image.specs.Address.{addressBytes, addressIn}
+
+abbrev pub envelopeSize : ℕ
+envelopeSize = 267
+
+-- ---- pz_read
+
+-- the first 15 bytes: the fixed fields, and where the contents begin
+unfoldable pub fieldBytes : Fixed → ℕ → List ℕ
+fieldBytes e at =
+    addressBytes (e .source)
+    ++ (e .count ∷ [])
+    ++ wordBytes (e .length)
+    ++ (e .priority ∷ e .version ∷ cond (e .ack) 1 0 ∷ [])
+    ++ wordBytes (e .seq .0)
+    ++ (e .kind ∷ [])
+    ++ wordBytes at
+
+-- the image of an accepted frame: its fields, then all 63 places of its destinations
+unfoldable pub envelopeImage : List ℕ → List ℕ
+envelopeImage f = fieldBytes (fieldsOf f) (contentsAt f) ++ joined addressBytes (elementAt zeroAddress (destinationsOf f .places)) 63
+
+-- the frame's number first, then 10 for an image of m bytes that is too short
+unfoldable pub readNumberFor : List ℕ → ℕ → ℕ
+readNumberFor f m = orElse (refusalOf f) (refuse 10 (ltb m envelopeSize) 0)
+
+-- the image after the call: a refusal leaves it, else its first 267 bytes are written
+unfoldable pub imageAfter : List ℕ → List ℕ → List ℕ
+imageAfter f b = unlessRefused (readNumberFor f (length b)) (sets b 0 (envelopeImage f)) b
+
+-- ---- pz_write
+
+-- the fields and the destinations in an image; its length and its offset are not looked at
+unfoldable pub fieldsIn : List ℕ → Fixed
+fieldsIn b =
+    record {
+      source = addressIn b 0;
+      count = getD b 4 0;
+      length = 0;
+      priority = getD b 7 0;
+      version = getD b 8 0;
+      ack = eqb (getD b 9 0) 1;
+      seq = record { 0 = wordAt b 10 };
+      kind = getD b 12 0;
+    }
+
+unfoldable pub destinationIn : List ℕ → ℕ → Address
+destinationIn b i = addressIn b (15 + 4 * i)
+
+-- the number of an image whose ack byte is above 1: 6, unless 4 or 5 comes first
+unfoldable pub strayAck : ℕ → ℕ → ℕ
+strayAck count n = refuse 4 (outside mostDestinations count) (refuse 5 (ltb longestContents n) 6)
+
+-- 10 for an image too short to be read, then 6 in its turn for the ack byte, else the writer's number
+unfoldable pub writeNumberFor : List ℕ → ℕ → ℕ → ℕ
+writeNumberFor b n room =
+    refuse 10 (ltb (length b) envelopeSize)
+    (cond (ltb 1 (getD b 9 0))
+    (strayAck (fieldsIn b .count) n)
+    (writeRefusal (fieldsIn b) (destinationIn b) n room))
+
+-- the bytes written, 0 beside a refusal
+unfoldable pub writtenFor : List ℕ → ℕ → ℕ → ℕ
+writtenFor b n room = unlessRefused (writeNumberFor b n room) (sizeFor (fieldsIn b) n) 0
+
+-- the buffer after the call: a refusal leaves it, else the frame stands at its start
+unfoldable pub frameAfter : List ℕ → List ℕ → List ℕ → List ℕ
+frameAfter b l out =
+    unlessRefused (writeNumberFor b (length l) (length out))
+    (bytesOf (fieldsIn b) (destinationIn b) l ++ drop (length (bytesOf (fieldsIn b) (destinationIn b) l)) out)
+    out

@@ -1,0 +1,4 @@
+pub mod LegLaws
+pub mod LedgerLaws
+pub mod LegUndo
+pub mod LedgerUndo

@@ -1,0 +1,3 @@
+pub mod Leg
+pub mod Ledger
+pub mod Promises

@@ -1,0 +1,72 @@
+-- The image of a routing table, 196 bytes (include/poztecameh.h): brigade 1, node 2, count 1, then 32 entries of 6: kind 1 (0 one node, 1 brigade,
+-- 2 everything), brigade 1, node 2, port 1, on 1.
+use Prim.Native.Nat.{ℕ, _+_, _*_}
+use mathlib.Core.Bool.{Bool, not, _&&_, _||_, cond}
+use mathlib.Core.List.{List}
+use lib.Dec.{leb, ltb, eqb}
+use lib.ListN.{length, getD, replicate}
+use Rattle.lists.specs.Bytes.{wordAt}
+use Rattle.lists.specs.Places.{anyBelow, row}
+use Rattle.route.specs.declared.Target.{Target}
+use Rattle.route.specs.declared.Target.the-variants.{One, Brigade, Everything}
+use Rattle.route.specs.declared.Entry.{Entry}
+use Rattle.route.specs.declared.Table.{Table}
+use Rattle.route.specs.Route.{mostEntries, noEntry}
+
+abbrev pub tableSize : ℕ
+tableSize = 196
+
+-- ---- an entry, 6 bytes
+
+-- the target of a kind; what its kind does not name is not looked at
+unfoldable pub targetOf : ℕ → ℕ → ℕ → Target
+targetOf kind brigade node = cond (eqb kind 0) (One brigade (record { 0 = node })) (cond (eqb kind 1) (Brigade brigade) Everything)
+
+-- the entry whose 6 bytes begin at a place
+unfoldable pub entryIn : List ℕ → ℕ → Entry
+entryIn b at =
+    record {
+      target = targetOf (getD b at 0) (getD b (at + 1) 0) (wordAt b (at + 2));
+      port = record { 0 = getD b (at + 4) 0 };
+      on = eqb (getD b (at + 5) 0) 1;
+    }
+
+-- the 6 bytes that begin at a place are no entry's: the kind is above 2, or on is above 1
+unfoldable pub strayEntryIn : List ℕ → ℕ → Bool
+strayEntryIn b at = ltb 2 (getD b at 0) || ltb 1 (getD b (at + 5) 0)
+
+-- ---- the table in an image
+
+-- how many of its entries count
+abbrev pub entryCount : List ℕ → ℕ
+entryCount b = getD b 3 0
+
+-- the entry at place i
+unfoldable pub heldEntry : List ℕ → ℕ → Entry
+heldEntry b i = entryIn b (4 + 6 * i)
+
+-- the bytes at place i are no entry's
+unfoldable pub strayEntryAt : List ℕ → ℕ → Bool
+strayEntryAt b i = strayEntryIn b (4 + 6 * i)
+
+-- the image can be read: it is long enough, counts at most 32 entries, and none that counts is stray
+unfoldable pub readableTable : List ℕ → Bool
+readableTable b = leb tableSize (length b) && leb (entryCount b) mostEntries && not (anyBelow (strayEntryAt b) (entryCount b))
+
+-- the table in it: places past the count are not looked at, and hold no entry
+unfoldable pub tableIn : List ℕ → Table
+tableIn b =
+    record {
+      brigade = getD b 0 0;
+      node = record { 0 = wordAt b 1 };
+      count = entryCount b;
+      entries = row mostEntries noEntry (heldEntry b) (entryCount b);
+    }
+
+-- a table with one entry too many
+abbrev pub brokenTable : Table
+brokenTable = record { brigade = 0; node = record { 0 = 0 }; count = 33; entries = replicate 32 noEntry }
+
+-- the table that an image stands for: one that can't be read stands for a table out of range, so that its number, 50, takes its turn
+unfoldable pub tableOf : List ℕ → Table
+tableOf b = cond (readableTable b) (tableIn b) brokenTable
