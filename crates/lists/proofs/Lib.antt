@@ -3,3 +3,4 @@ pub mod Places
 pub mod Stores
 pub mod Lists
 pub mod Refusals
+pub mod Chains
