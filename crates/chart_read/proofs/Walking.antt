@@ -66,3 +66,10 @@ module _ (bytes : List ℕ) (s : SoFar) (at : ℕ) (h : at < length bytes) (st :
       ∙ ap (λ (x : Step). onward (x .number) at (λ u. walk k (x .«so_far») bytes (x .next))) (sym e)
       ∙ onward-refused (st .number) at _ t)
       ∙ r
+
+-- the input's end, by its question
+pub end-unasked : (s : SoFar) (long : ℕ) → s .asked ≡ false → refusedAt 31 long ≡ atEnd s long
+end-unasked s long e = rw e
+
+pub end-asked : (s : SoFar) (long : ℕ) → s .asked ≡ true → record { number = 0; place = 0; chart = s .chart } ≡ atEnd s long
+end-asked s long e = rw e

@@ -58,7 +58,7 @@ fn cut(total: usize) -> Step
 
 // The field that begins at a place, after what was taken so far.
 pub fn take_field(so_far: SoFar, bytes: &[u8], at: usize) -> Step
-    ensures { λ r. ⌜ r ≡ stepOf so_far (now (bytes .entry)) at ⌝ }
+    ensures { λ r. ⌜ r ≡ stepOf «so_far» (now (bytes .entry)) at ⌝ }
 {
     let total = bytes.len();
     if total < at {

@@ -1,14 +1,15 @@
+-- `chart_read::nothing` meets its contract: the chart of zeros, and no question.
+use Rattle.chart_read.specs.Reading.{nothing}
 use borrow.Author.Needs.{needs}
 use Rattle.chart_read.proofs.nothing.Statement.{statement}
 use Rattle.chart_read.proofs.nothing.Tie as tie
 
--- src/lib.rt:40:9
 no-chart-requires : tie.Need-no-chart-requires
 no-chart-requires c κs = search needs
 
--- src/lib.rt:37:1
 returns : tie.Need-returns
-returns c = search needs
+unfolding nothing
+returns c = rw (c .no-chart .ensures)
 
 pub nothing-spec : {M : Type 1} → statement M
 nothing-spec = tie.close (tie.spec no-chart-requires returns)
