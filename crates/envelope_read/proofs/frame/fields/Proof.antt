@@ -1,8 +1,8 @@
--- `envelope::frame::fields` meets its contract: what the address, the two words and the two bytes are, put into `fieldsOf`.
+-- `envelope_read::frame::fields` meets its contract: what the address, the two words and the two bytes are, put into `fieldsOf`.
 use Rattle.envelope.specs.Frame.{countOf, lengthOf, fieldsOf}
 use borrow.Author.Needs.{needs}
-use Rattle.envelope.proofs.frame.fields.Statement.{statement}
-use Rattle.envelope.proofs.frame.fields.Tie as tie
+use Rattle.envelope_read.proofs.frame.fields.Statement.{statement}
+use Rattle.envelope_read.proofs.frame.fields.Tie as tie
 
 unpack-requires : tie.Need-unpack-requires
 unpack-requires c κs = search needs

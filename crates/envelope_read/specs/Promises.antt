@@ -3,9 +3,9 @@ use Prim.Native.Nat.{ℕ, _+_, _*_}
 use mathlib.Core.Path.{_≡_}
 use mathlib.Core.List.{List, [], _∷_, _++_}
 use lib.ListN.{length, take}
 use Rattle.envelope.specs.declared.Fixed.{Fixed}
 use Rattle.envelope.specs.Frame.{checkOf}
-use Rattle.envelope.specs.Read.{contentsOf, contentsAt}
+use Rattle.envelope_read.specs.Read.{contentsOf, contentsAt}
 
 -- the contents are exactly the frame's part: as long as <length> says, after the message type, before the check character
 pub record ContentsPart (f : List ℕ) (e : Fixed) : Type 0 where

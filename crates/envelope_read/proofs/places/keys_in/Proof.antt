@@ -1,14 +1,14 @@
--- `envelope::places::keys_in` meets its contract. The loop's invariant: the first i keys are in the row.
+-- `envelope_read::places::keys_in` meets its contract. The loop's invariant: the first i keys are in the row.
 use Prim.Native.Nat.{_≤_, _-_}
 use mathlib.Core.Path.{_≡_, sym}
 use Rattle.lists.specs.Places.{row}
 use Rattle.lists.proofs.Places.{row-none, row-next}
 use Rattle.envelope.specs.Frame.{destinationAt}
 use Rattle.envelope.specs.Keys.{keyAt}
 use native.Mathlib.Omega.{arith}
 use borrow.Author.Needs.{needs}
-use Rattle.envelope.proofs.places.keys_in.Statement.{statement}
-use Rattle.envelope.proofs.places.keys_in.Tie as tie
+use Rattle.envelope_read.proofs.places.keys_in.Statement.{statement}
+use Rattle.envelope_read.proofs.places.keys_in.Tie as tie
 
 abbrev Inv-loop : tie.InvT-loop
 Inv-loop part n keys₀ i₀ keys i =

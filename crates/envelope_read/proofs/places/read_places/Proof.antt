@@ -1,14 +1,14 @@
--- `envelope::places::read_places` meets its contract. The loop's invariant: the first i destinations are in the row.
+-- `envelope_read::places::read_places` meets its contract. The loop's invariant: the first i destinations are in the row.
 use Prim.Native.Nat.{_≤_, _-_}
 use mathlib.Core.Path.{_≡_, sym, _∙_}
 use Rattle.lists.specs.Places.{row}
 use Rattle.lists.proofs.Places.{row-none, row-next}
 use Rattle.address.specs.Address.{zeroAddress}
 use Rattle.envelope.specs.Frame.{destinationAt}
 use native.Mathlib.Omega.{arith}
 use borrow.Author.Needs.{needs}
-use Rattle.envelope.proofs.places.read_places.Statement.{statement}
-use Rattle.envelope.proofs.places.read_places.Tie as tie
+use Rattle.envelope_read.proofs.places.read_places.Statement.{statement}
+use Rattle.envelope_read.proofs.places.read_places.Tie as tie
 
 abbrev Inv-loop : tie.InvT-loop
 Inv-loop part n places₀ i₀ places i =

@@ -1,13 +1,14 @@
--- `envelope::read_frame` meets its contract: the first refusal of the frame, then that of its values, else its fields.
+-- `envelope_read::read_frame` meets its contract: the first refusal of the frame, then that of its values, else its fields.
 use mathlib.Core.Path.{_≡_, sym, _∙_}
 use Rattle.lists.specs.Bytes.{Bytes}
 use Rattle.envelope.specs.Frame.{fieldsOf}
 use Rattle.envelope.specs.Refusal.{refusalOf}
-use Rattle.envelope.proofs.Laws.{framed, count-le, part-from, refusal-broken, refusal-values, read-broken, read-whole, read-told}
+use Rattle.envelope.proofs.Laws.{framed, count-le, part-from}
+use Rattle.envelope_read.proofs.Laws.{refusal-broken, refusal-values, read-broken, read-whole, read-told}
 use native.Mathlib.Omega.{arith}
 use borrow.Author.Needs.{needs}
-use Rattle.envelope.proofs.read_frame.Statement.{statement}
-use Rattle.envelope.proofs.read_frame.Tie as tie
+use Rattle.envelope_read.proofs.read_frame.Statement.{statement}
+use Rattle.envelope_read.proofs.read_frame.Tie as tie
 
 -- the values' number is the frame's
 judged : (c : tie.After-values-refusal) → c .values-refusal .result ≡ refusalOf (c .before .before .before .before .before .before .before .before .before .before .args .frame .now)

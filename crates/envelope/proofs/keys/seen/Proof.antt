@@ -1,4 +1,4 @@
--- `envelope::places::seen` meets its contract. The loop's invariant: found says whether a key before j is the one at i.
+-- `envelope::keys::seen` meets its contract. The loop's invariant: found says whether a key before j is the one at i.
 use Rattle.lists.proofs.Places.{any-met, any-unmet, any-none}
 use Prim.Native.Nat.{_≤_, _-_}
 use mathlib.Core.Path.{_≡_, sym, _∙_}
@@ -8,8 +8,8 @@ use borrow.Author.Tests.{eq-eqb, ne-eqb}
 use Rattle.lists.specs.Places.{anyBelow, sameAt, repeatAt, elementAt}
 use native.Mathlib.Omega.{arith}
 use borrow.Author.Needs.{needs}
-use Rattle.envelope.proofs.places.seen.Statement.{statement}
-use Rattle.envelope.proofs.places.seen.Tie as tie
+use Rattle.envelope.proofs.keys.seen.Statement.{statement}
+use Rattle.envelope.proofs.keys.seen.Tie as tie
 
 abbrev Inv-loop : tie.InvT-loop
 Inv-loop keys i key found₀ j₀ found j =

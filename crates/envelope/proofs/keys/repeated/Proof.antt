@@ -1,4 +1,4 @@
--- `envelope::places::repeated` meets its contract. The loop's invariant: no key before i is that of an earlier place.
+-- `envelope::keys::repeated` meets its contract. The loop's invariant: no key before i is that of an earlier place.
 use Prim.Native.Nat.{_≤_, _-_}
 use mathlib.Core.Path.{_≡_, sym, _∙_}
 use mathlib.Core.Bool.{false}
@@ -7,8 +7,8 @@ use Rattle.lists.specs.Places.{anyBelow, repeatAt, repeats, elementAt}
 use Rattle.lists.proofs.Places.{any-none, any-more, any-end, any-found}
 use native.Mathlib.Omega.{arith}
 use borrow.Author.Needs.{needs}
-use Rattle.envelope.proofs.places.repeated.Statement.{statement}
-use Rattle.envelope.proofs.places.repeated.Tie as tie
+use Rattle.envelope.proofs.keys.repeated.Statement.{statement}
+use Rattle.envelope.proofs.keys.repeated.Tie as tie
 
 abbrev Inv-loop : tie.InvT-loop
 Inv-loop keys n i₀ i =

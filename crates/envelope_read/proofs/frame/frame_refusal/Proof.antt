@@ -1,15 +1,15 @@
--- `envelope::frame::frame_refusal` meets its contract: the tests on the way say which case of `frameRefusal` holds.
+-- `envelope_read::frame::frame_refusal` meets its contract: the tests on the way say which case of `frameRefusal` holds.
 use Prim.Native.Nat.{_-_}
 use mathlib.Core.Path.{sym, _∙_}
 use borrow.Author.Tests.{lt-ltb, le-ltb, eq-eqb, ne-eqb}
 use lib.ListN.{length, getD, take}
 use lib.Seq.{length-take-le}
 use Rattle.envelope.specs.Frame.{countOf, lengthOf, sizeOf, checkOf}
 use Rattle.envelope.specs.Refusal.{frameRefusal}
 use native.Mathlib.Omega.{arith}
 use borrow.Author.Needs.{needs}
-use Rattle.envelope.proofs.frame.frame_refusal.Statement.{statement}
-use Rattle.envelope.proofs.frame.frame_refusal.Tie as tie
+use Rattle.envelope_read.proofs.frame.frame_refusal.Statement.{statement}
+use Rattle.envelope_read.proofs.frame.frame_refusal.Tie as tie
 
 returns : tie.Need-returns
 unfolding frameRefusal

@@ -6,12 +6,12 @@ use lib.ListN.{take, drop, replicate}
 use Rattle.lists.specs.Places.{row}
 use Rattle.lists.specs.Refusals.{unlessRefused}
 use Rattle.address.specs.Address.{zeroAddress}
 use Rattle.envelope.specs.declared.Fixed.{Fixed}
-use Rattle.envelope.specs.declared.Read.{Read}
-use Rattle.envelope.specs.declared.Read.the-variants.{Envelope, Refused}
-use Rattle.envelope.specs.declared.Destinations.{Destinations}
+use Rattle.envelope_read.specs.declared.Read.{Read}
+use Rattle.envelope_read.specs.declared.Read.the-variants.{Envelope, Refused}
+use Rattle.envelope_read.specs.declared.Destinations.{Destinations}
 use Rattle.envelope.specs.Frame.{partAt, fieldsOf, countOf, lengthOf, contentsStart, destinationAt}
 use Rattle.envelope.specs.Refusal.{refusalOf}
 
 -- the fields beside a refusal: every one 0
 abbrev pub zeroFields : Fixed

@@ -12,13 +12,14 @@ use Rattle.lists.specs.Bytes.{Bytes}
 use Rattle.lists.specs.Refusals.{refuse, orElse, among}
 use Rattle.lists.specs.Places.{repeats}
 use Rattle.address.specs.Address.{sameAddress}
 use Rattle.envelope.specs.declared.Fixed.{Fixed}
-use Rattle.envelope.specs.declared.Read.the-variants.{Envelope}
+use Rattle.envelope_read.specs.declared.Read.the-variants.{Envelope}
 use Rattle.envelope.specs.Frame.{partAt, lengthOf, contentsStart, sizeOf, fieldsOf, destinationAt, checkOf}
 use Rattle.envelope.specs.Refusal.{mostDestinations, lowestPriority, outside, wrongVersion, frameRefusal, valueRefusal, refusalOf}
-use Rattle.envelope.specs.Read.{readOf, contentsOf}
-use Rattle.envelope.specs.Promises.{ContentsPart, readerNumbers}
-use Rattle.envelope.proofs.Laws.{accepted, last-byte, length-le, never-out, read-envelope, contents-taken, contents-at-taken, contents-long}
+use Rattle.envelope_read.specs.Read.{readOf, contentsOf}
+use Rattle.envelope_read.specs.Promises.{ContentsPart, readerNumbers}
+use Rattle.envelope.proofs.Laws.{accepted, last-byte, length-le, never-out}
+use Rattle.envelope_read.proofs.Laws.{read-envelope, contents-taken, contents-at-taken, contents-long}
 
 part-stands : (f : List ℕ) → refusalOf f ≡ 0
     → f ≡ take (contentsStart f) f ++ (contentsOf f ++ (checkOf (take (contentsStart f + lengthOf f) f) ∷ []))
