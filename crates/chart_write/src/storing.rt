@@ -10,7 +10,7 @@ ghost use mathlib.Core.Path.{_≡_};
 ghost use Prim.Native.Nat.{_+_, _≤_};
 ghost use lib.ListN.{length};
 ghost use lib.Seq.{sets};
-ghost use Rattle.lists.specs.Places.{joined};
+ghost use Rattle.lists.specs.Places.{elementAt, firsts, joined};
 ghost use Rattle.chart.specs.Values.{nodeAt, linkAt};
 ghost use Rattle.chart_write.specs.Numbers.{chartNumber};
 ghost use Rattle.chart_write.specs.Writing.{nodeField, linkField, chartBytes};
@@ -40,6 +40,14 @@ pub fn chart_size(c: Chart) -> usize
     nodes_size(nodes) + 12 * (c.links.count as usize) + 9
 }
 
+// The first n bytes of a label at a place.
+fn put_label(out: &mut [u8], at: usize, label: [u8; 24], n: usize)
+    requires { ⌜ n ≤ 24 ⌝ }
+    ensures { λ _. ⌜ now (out .exit) ≡ sets (now (out .entry)) at (firsts (elementAt 0 label) n) ⌝ }
+{
+    lists::put_all(out, at, &label[..n]);
+}
+
 // A node's field at a place.
 fn put_node(out: &mut [u8], at: usize, n: ChartNode)
     requires { ⌜ (n .length ≤ 24) × (at ≤ 1065) ⌝ }
@@ -48,8 +56,7 @@ fn put_node(out: &mut [u8], at: usize, n: ChartNode)
     let head = node_head(n);
     lists::put_all(out, at, &head);
     let label = n.label;
-    let many = n.length as usize;
-    lists::put_all(out, at + 6, &label[..many]);
+    put_label(out, at + 6, label, n.length as usize);
 }
 
 // The nodes' fields at the start, and the place past them.

@@ -83,3 +83,10 @@ pub number-agree : (d d' : ℕ → ℕ) (n : ℕ) → ((i : ℕ) → i < n → d
 unfolding firstNumber
 number-agree d d' zero h = refl
 number-agree d d' (suc n) h = rw (number-agree d d' n (λ i l. h i (omega arith)), h n (omega arith))
+
+-- the first of two refusals at a `return`
+pub or-stops : {k a : ℕ} (b : ℕ) → k ≡ a → (k ≡ 0 → ⊥) → k ≡ orElse a b
+or-stops {k} {a} b e h = e ∙ sym (or-refused a b (λ z. h (e ∙ z)))
+
+pub or-passes : {a r b : ℕ} → a ≡ 0 → r ≡ b → r ≡ orElse a b
+or-passes e h = rw e h

@@ -1,60 +1,72 @@
+-- `chart_write::numbers::nodes_number` meets its contract. The loop's invariant: no node before i has a number.
+use Prim.Native.Nat.{_≤_, _-_}
+use mathlib.Core.Path.{_≡_, sym, _∙_}
+use lib.ListN.{length, length-map}
+use Rattle.lists.specs.Chains.{firstNumber}
+use Rattle.lists.proofs.Chains.{number-none, number-more, number-found}
+use Rattle.chart_write.specs.Numbers.{nodeNumberAt}
+use Rattle.chart_write.proofs.Laws.{node-number-read}
 use borrow.Author.Needs.{needs}
+use native.Mathlib.Omega.{arith}
 use Rattle.chart_write.proofs.numbers.nodes_number.Statement.{statement}
 use Rattle.chart_write.proofs.numbers.nodes_number.Tie as tie
 
 abbrev Inv-loop : tie.InvT-loop
-Inv-loop nodes i₀ i = ?
+Inv-loop nodes i₀ i =
+    (i ≤ nodes .count) × (firstNumber (nodeNumberAt nodes) i ≡ 0)
 
 abbrev μ-loop : tie.MeasureT-loop
-μ-loop nodes i₀ i = ?
+μ-loop nodes i₀ i = nodes .count - i
 
--- src/numbers.rt:40:5
+-- the array has 16 places
+whole : (s : tie.Start Inv-loop μ-loop) → length (s .args .t1 .items) ≡ 16
+whole s = simp length-map at (s .good .0 .1 .1 .1 .0 .1 .0 .1)
+
 loop-holds : tie.Need-loop-holds Inv-loop μ-loop
-loop-holds c = search needs
+loop-holds c = (omega arith, number-none _)
 
--- src/numbers.rt:40:15
 cast-loop : tie.Need-cast-loop Inv-loop μ-loop
 cast-loop c = search needs
 
--- src/numbers.rt:41:42
 cast-nodes-before : tie.Need-cast-nodes-before Inv-loop μ-loop
 cast-nodes-before c = search needs
 
--- src/numbers.rt:41:13
 nodes-before-requires : tie.Need-nodes-before-requires Inv-loop μ-loop
 nodes-before-requires c κs = search needs
 
--- src/numbers.rt:42:17
 mul-n : tie.Need-mul-n Inv-loop μ-loop
 mul-n c = search needs
 
--- src/numbers.rt:42:17
 element-copy-out-n : tie.Need-element-copy-out-n Inv-loop μ-loop
 element-copy-out-n c = search needs
 
--- src/numbers.rt:43:13
 node-number-requires : tie.Need-node-number-requires Inv-loop μ-loop
 node-number-requires c κs = search needs
 
--- src/numbers.rt:45:13
 returns : tie.Need-returns Inv-loop μ-loop
-returns c = search needs
+returns c =
+    let s = (c .before .before .before .before .before .before) in
+    let l = c .before .before .before .before .before .loop in
+    let e = c .before .node-number .ensures ∙ node-number-read (s .args .t1) _ _ (l .i) (omega (arith, whole s)) (c .before .before .before .nodes-before .ensures) in
+    e ∙ sym (number-found (nodeNumberAt (s .args .t1)) (s .args .t1 .count) (l .i) (c .before .before .before .before .loop-test .taken) (l .inv .1) (λ z. c .if1 .taken (e ∙ z)))
 
--- src/numbers.rt:47:9
 add-i : tie.Need-add-i Inv-loop μ-loop
 add-i c = search needs
 
--- src/numbers.rt:40:5
 loop-less : tie.Need-loop-less Inv-loop μ-loop
 loop-less c = search needs
 
--- src/numbers.rt:40:5
 loop-again : tie.Need-loop-again Inv-loop μ-loop
-loop-again c = search needs
+loop-again c =
+    let s = (c .before .before .before .before .before .before) in
+    let l = c .before .before .before .before .before .loop in
+    (omega arith, number-more (nodeNumberAt (s .args .t1)) (l .i) (l .inv .1) (sym (c .before .node-number .ensures ∙ node-number-read (s .args .t1) _ _ (l .i) (omega (arith, whole s)) (c .before .before .before .nodes-before .ensures)) ∙ c .if1 .left))
 
--- src/numbers.rt:35:1
 returns-2 : tie.Need-returns-2 Inv-loop μ-loop
-returns-2 c = search needs
+returns-2 c =
+    let l = c .before .loop in
+    let e : l .i ≡ c .before .before .args .t1 .count = omega arith in
+    sym (rw e at (l .inv .1))
 
 pub nodes-number-spec : {M : Type 1} → statement M
 nodes-number-spec =
