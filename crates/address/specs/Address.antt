@@ -24,6 +24,10 @@ largestSeq = 32767
 abbrev pub stationOf : Address → Station
 stationOf a = record { brigade = a .brigade; node = a .node }
 
+-- the address with these numbers
+abbrev pub addressOf : ℕ → ℕ → ℕ → Address
+addressOf brigade node port = record { brigade = brigade; node = record { 0 = node }; port = record { 0 = port } }
+
 -- the brigade is 0 to 255 and the node 0 to 1023
 unfoldable pub stationInRange : Station → Bool
 stationInRange s = leb (s .brigade) largestBrigade && leb (s .node .0) largestNode

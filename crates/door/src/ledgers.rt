@@ -5,7 +5,7 @@ use address::Port;
 use address::Seq;
 use ledger_calls::Reply;
 ghost use mathlib.Core.Path.{_≡_};
-ghost use Rattle.image.specs.Address.{addressOf};
+ghost use Rattle.address.specs.Address.{addressOf};
 ghost use Rattle.door.specs.Calls.{replyOf, answerFor, answerImage, tickFor, tickImage, clearFor, clearImage, acceptFor, acceptImage};
 
 // Takes a frame that came in by the arrival port; `added` is how many legs were added.

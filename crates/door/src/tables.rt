@@ -4,7 +4,7 @@ use address::Node;
 use address::Port;
 use route::Choice;
 ghost use mathlib.Core.Path.{_≡_};
-ghost use Rattle.image.specs.Address.{addressOf};
+ghost use Rattle.address.specs.Address.{addressOf};
 ghost use Rattle.door.specs.Calls.{chooseNumberFor, localFor, outFor};
 
 // Where a message for the destination goes that came in by the arrival port: `local` 1, for this node at port `out`, or 0, out by port `out`.

@@ -25,8 +25,8 @@ use Rattle.lists.specs.declared.Written.{Written}
 use Rattle.envelope_write.specs.Write.{sizeFor, writeRefusal, afterOf}
 use Rattle.lists.specs.Writing.{writeNumber, writeCount}
 use Rattle.envelope_write.proofs.Laws.{count-refused, write-agree, after-agree}
-use Rattle.image.specs.Address.{addressBytes}
-use Rattle.image.proofs.Laws.{length-address}
+use Rattle.address.specs.Wide.{addressBytes}
+use Rattle.wide.proofs.Laws.{length-address}
 use Rattle.envelope_image.specs.Envelope.{fieldBytes, envelopeImage, readNumberFor, imageAfter, fieldsIn, destinationIn, strayAck, writeNumberFor, writtenFor, frameAfter}
 
 -- ---- read_into

@@ -25,10 +25,10 @@ use Rattle.envelope_write.specs.Write.{headOf, midOf, bodyOf, bytesOf, writeRef
 use Rattle.envelope_write.specs.Promises.{WriteUndoesRead as FrameAgain}
 use Rattle.envelope_write.proofs.Laws.{write-agree, after-agree, wrote}
 use Rattle.envelope_write.proofs.Promises.{write-undoes-read as frame-undoes}
-use Rattle.image.specs.Address.{addressBytes}
+use Rattle.address.specs.Wide.{addressBytes}
 use Rattle.envelope_image.specs.Envelope.{fieldBytes, envelopeImage, readNumberFor, imageAfter, fieldsIn, destinationIn}
 use Rattle.envelope_image.specs.Promises.{WriteUndoesRead}
-use Rattle.image.proofs.Laws.{length-address, word-back, address-back}
+use Rattle.wide.proofs.Laws.{length-address, word-back, address-back}
 use Rattle.envelope_image.proofs.Laws.{by-writer, buffer-by-writer}
 
 bit-back : (a : Bool) → eqb (cond a 1 0) 1 ≡ a

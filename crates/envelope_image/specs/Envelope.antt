@@ -16,7 +16,7 @@ use Rattle.envelope.specs.Frame.{fieldsOf}
 use Rattle.envelope.specs.Refusal.{mostDestinations, longestContents, outside, refusalOf}
 use Rattle.envelope_read.specs.Read.{contentsAt, destinationsOf}
 use Rattle.envelope_write.specs.Write.{bytesOf, sizeFor, writeRefusal}
-use Rattle.image.specs.Address.{addressBytes, addressIn}
+use Rattle.address.specs.Wide.{addressBytes, addressIn}
 
 abbrev pub envelopeSize : ℕ
 envelopeSize = 267

@@ -15,7 +15,7 @@ ghost use lib.Seq.{sets};
 ghost use Rattle.lists.specs.Places.{joined, row};
 ghost use Rattle.address.specs.Address.{zeroAddress};
 ghost use Rattle.envelope.specs.Frame.{destinationAt};
-ghost use Rattle.image.specs.Address.{addressBytes};
+ghost use Rattle.address.specs.Wide.{addressBytes};
 ghost use Rattle.envelope_image.specs.Envelope.{fieldBytes, readNumberFor, imageAfter, fieldsIn, destinationIn, writeNumberFor, writtenFor, frameAfter, strayAck};
 
 const ENVELOPE_SIZE: usize = 267;
@@ -24,7 +24,7 @@ const ENVELOPE_SIZE: usize = 267;
 fn field_bytes(e: Fixed, at: u16) -> [u8; 15]
     ensures { λ r. ⌜ r ≡ fieldBytes e at ⌝ }
 {
-    let s = image::address_bytes(e.source);
+    let s = wide::address_bytes(e.source);
     let n = e.length;
     let q = e.seq.0;
     let ack: u8 = if e.ack { 1 } else { 0 };
@@ -53,7 +53,7 @@ fn put_destinations(image: &mut [u8], part: &[u8], n: u8)
 {
     let mut i: u8 = 0;
     while i < n {
-        let b = image::address_bytes(envelope::destination(part, i));
+        let b = wide::address_bytes(envelope::destination(part, i));
         lists::put_all(image, 15 + 4 * (i as usize), &b);
         i += 1;
     }
@@ -95,7 +95,7 @@ fn fields_in(b: &[u8]) -> Fixed
     requires { ⌜ 267 ≤ length (now b) ⌝ }
     ensures { λ r. ⌜ r ≡ fieldsIn (now (b .entry)) ⌝ }
 {
-    let source = image::address_in(b, 0);
+    let source = wide::address_in(b, 0);
     let q = lists::word_at(b, 10);
     Fixed {
         source,
@@ -122,7 +122,7 @@ fn places_in(b: &[u8], n: usize) -> [Address; 63]
     let mut places = [zero; 63];
     let mut i = 0;
     while i < n {
-        let a = image::address_in(b, 15 + 4 * i);
+        let a = wide::address_in(b, 15 + 4 * i);
         places[i] = a;
         i += 1;
     }

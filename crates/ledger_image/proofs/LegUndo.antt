@@ -16,10 +16,10 @@ use Rattle.lists.proofs.Places.{firsts-at}
 use Rattle.ledger.specs.declared.Standing.{Standing}
 use Rattle.ledger.specs.declared.Standing.the-variants.{Open, Acknowledged, Refused, Undeliverable, TimedOut}
 use Rattle.ledger.specs.declared.Leg.{Leg}
-use Rattle.image.specs.Address.{addressIn}
+use Rattle.address.specs.Wide.{addressIn}
 use Rattle.ledger_image.specs.Leg.{standingBytes, standingOf, strayStanding, legBytes, legIn, strayLegIn}
 use Rattle.ledger_image.specs.Promises.{LegUndo}
-use Rattle.image.proofs.Laws.{word-back, address-back}
+use Rattle.wide.proofs.Laws.{word-back, address-back}
 use Rattle.ledger_image.proofs.LegLaws.{length-leg}
 
 -- ---- stores

@@ -9,7 +9,7 @@ use Rattle.lists.specs.Bytes.{wordAt, wordBytes}
 use Rattle.ledger.specs.declared.Standing.{Standing}
 use Rattle.ledger.specs.declared.Standing.the-variants.{Open, Acknowledged, Refused, Undeliverable, TimedOut}
 use Rattle.ledger.specs.declared.Leg.{Leg}
-use Rattle.image.specs.Address.{addressBytes, addressIn}
+use Rattle.address.specs.Wide.{addressBytes, addressIn}
 
 -- ---- a standing with its reason, 3 bytes
 

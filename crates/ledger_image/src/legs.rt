@@ -53,8 +53,8 @@ fn stray_standing(kind: u8, set: u8, code: u8) -> bool
 pub fn leg_bytes(g: Leg) -> [u8; 15]
     ensures { λ r. ⌜ r ≡ legBytes g ⌝ }
 {
-    let from = image::address_bytes(g.source);
-    let to = image::address_bytes(g.destination);
+    let from = wide::address_bytes(g.source);
+    let to = wide::address_bytes(g.destination);
     let n = g.seq.0;
     let t = g.ticks;
     let standing = g.standing;
@@ -83,8 +83,8 @@ pub fn leg_in(b: &[u8], at: usize) -> Leg
     requires { ⌜ at + 15 ≤ length (now b) ⌝ }
     ensures { λ r. ⌜ r ≡ legIn (now (b .entry)) at ⌝ }
 {
-    let source = image::address_in(b, at);
-    let destination = image::address_in(b, at + 4);
+    let source = wide::address_in(b, at);
+    let destination = wide::address_in(b, at + 4);
     let n = lists::word_at(b, at + 8);
     let ticks = lists::word_at(b, at + 10);
     let standing = standing_of(b[at + 12], b[at + 13], b[at + 14]);

@@ -3,4 +3,6 @@ pub mod Places
 pub mod Stores
 pub mod Lists
 pub mod Refusals
+pub mod Chains
 pub mod Writing
+pub mod Runs

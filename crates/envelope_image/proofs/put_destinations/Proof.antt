@@ -8,8 +8,8 @@ use Rattle.lists.specs.Places.{joined}
 use Rattle.lists.proofs.Places.{joined-none}
 use Rattle.lists.proofs.Stores.{joined-stored}
 use Rattle.envelope.specs.Frame.{destinationAt}
-use Rattle.image.specs.Address.{addressBytes}
-use Rattle.image.proofs.Laws.{length-address}
+use Rattle.address.specs.Wide.{addressBytes}
+use Rattle.wide.proofs.Laws.{length-address}
 use native.Mathlib.Omega.{arith}
 use borrow.Author.Needs.{needs}
 use Rattle.envelope_image.proofs.put_destinations.Statement.{statement}

@@ -1,5 +1,5 @@
 -- `door::ledgers::pz_answer` meets its contract: the ledger's own answer is put back.
-use Rattle.image.specs.Address.{addressOf}
+use Rattle.address.specs.Address.{addressOf}
 use Rattle.door.specs.Calls.{replyOf}
 use Rattle.door.proofs.Laws.{answer-put}
 use borrow.Author.Needs.{needs}

@@ -1,5 +1,5 @@
 -- `door::tables::pz_choose` meets its contract: the choice's own numbers are what C gets.
-use Rattle.image.specs.Address.{addressOf}
+use Rattle.address.specs.Address.{addressOf}
 use Rattle.door.proofs.Laws.{Says, choose-told}
 use borrow.Author.Needs.{needs}
 use Rattle.door.proofs.tables.pz_choose.Statement.{statement}
