@@ -1,7 +1,7 @@
 -- Numbers go by stations, ends and ranges alone: two charts that agree on these have the same numbers. A label's own bytes count only for its range.
 use Prim.Native.Nat.{ℕ, _<_}
 use mathlib.Core.Path.{_≡_, refl, sym, ap, ap₂, _∙_}
-use mathlib.Core.Bool.{Bool, true, false, not, _&&_, _||_}
+use mathlib.Core.Bool.{Bool, not, _&&_, _||_}
 use lib.Dec.{ltb, leb}
 use Rattle.lists.specs.Places.{anyBelow, elementAt, row}
 use Rattle.lists.specs.Refusals.{refuse}

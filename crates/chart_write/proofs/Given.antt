@@ -1,5 +1,5 @@
 -- Which numbers are given: each test has its own, and what is chosen among them is one of them.
-use Prim.Native.Nat.{ℕ, zero, suc, _≤_}
+use Prim.Native.Nat.{ℕ, zero, suc}
 use mathlib.Core.Path.{_≡_, refl}
 use mathlib.Core.List.{List}
 use mathlib.Core.Bool.{Bool, true, false, not, cond, _&&_}
@@ -10,8 +10,6 @@ use Rattle.lists.specs.Chains.{firstNumber}
 use Rattle.address.specs.declared.Station.{Station}
 use Rattle.address.specs.Address.{stationOf, stationInRange, sameStation}
 use Rattle.address.specs.Wide.{stationIn}
-use Rattle.chart.specs.declared.ChartNode.{ChartNode}
-use Rattle.chart.specs.declared.Link.{Link}
 use Rattle.chart.specs.declared.Nodes.{Nodes}
 use Rattle.chart.specs.declared.Links.{Links}
 use Rattle.chart.specs.declared.Chart.{Chart}

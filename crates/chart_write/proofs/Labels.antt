@@ -1,13 +1,12 @@
 -- Labels are ink: without them each node, link and question has the same number.
-use Prim.Native.Nat.{ℕ, _<_, _≤_}
+use Prim.Native.Nat.{ℕ, _<_}
 use mathlib.Core.Path.{_≡_, refl, sym, ap, _∙_}
 use mathlib.Core.Bool.{Bool, false, not, _&&_}
 use native.Mathlib.Omega.{arith}
 use lib.Dec.{ltb}
 use borrow.Author.Tests.{le-ltb}
-use Rattle.lists.specs.Places.{anyBelow, elementAt, row}
+use Rattle.lists.specs.Places.{row}
 use Rattle.lists.specs.Refusals.{refuse, orElse}
-use Rattle.lists.specs.Chains.{firstNumber}
 use Rattle.lists.proofs.Places.{any-none, row-at}
 use Rattle.lists.proofs.Chains.{number-agree}
 use Rattle.address.specs.Address.{stationInRange}
@@ -15,11 +14,11 @@ use Rattle.chart.specs.declared.ChartNode.{ChartNode}
 use Rattle.chart.specs.declared.Nodes.{Nodes}
 use Rattle.chart.specs.declared.Links.{Links}
 use Rattle.chart.specs.declared.Chart.{Chart}
-use Rattle.chart.specs.Values.{noNode, nodeAt, linkAt, strayByte, nodeInRange}
-use Rattle.chart.specs.Numbers.{nodeNumber, linkNumber, questionNumber}
+use Rattle.chart.specs.Values.{noNode, nodeAt, linkAt, nodeInRange}
+use Rattle.chart.specs.Numbers.{nodeNumber}
 use Rattle.chart_write.specs.Numbers.{nodesBefore, linksBefore, nodeNumberAt, linkNumberAt, valuesNumber, chartNumber}
 use Rattle.chart_write.specs.Promises.{unlabelledAt, unlabelled, LabelsInRange, LabelsAreInk}
-use Rattle.chart_write.proofs.Agree.{SameNodes, SameLinks, node-agree, link-agree, question-agree, node-like}
+use Rattle.chart_write.proofs.Agree.{SameNodes, node-agree, link-agree, question-agree, node-like}
 
 -- the nodes without their labels
 unfoldable bare : Nodes → Nodes

@@ -1,44 +1,25 @@
 -- The theorems on charts: read-undoes-write, write-undoes-read, same-number, place-near, reader-numbers, writer-numbers, labels-are-ink.
-use Prim.Native.Nat.{ℕ, zero, suc, _+_, _*_, _<_, _≤_}
-use mathlib.Core.Path.{_≡_, refl, sym, ap, ap₂, _∙_}
-use mathlib.Core.List.{List, [], _∷_, _++_}
-use mathlib.Core.Bool.{Bool, true, false, not, cond, _&&_, _||_}
+use Prim.Native.Nat.{ℕ, _≤_}
+use mathlib.Core.Path.{_≡_, sym, ap, _∙_}
+use mathlib.Core.List.{List, _++_}
 use native.Mathlib.Omega.{arith}
-use lib.ListN.{length, getD, take, drop}
+use lib.ListN.{length, take, drop}
 use lib.Seq.{take-at}
-use lib.Dec.{ltb, leb, eqb}
 use borrow.Author.Tests.{le-ltb}
 use Rattle.lists.specs.Bytes.{Bytes}
-use Rattle.lists.specs.Places.{anyBelow, elementAt, row, joined}
-use Rattle.lists.specs.Refusals.{refuse, orElse, unlessRefused, among}
-use Rattle.lists.specs.Chains.{firstNumber}
 use Rattle.lists.specs.declared.Written.the-variants.{Wrote}
-use Rattle.lists.specs.Writing.{wroteUnless}
-use Rattle.lists.proofs.Places.{any-none, row-at}
 use Rattle.lists.proofs.Refusals.{taken, or-pass}
-use Rattle.lists.proofs.Chains.{FirstBad, first-bad, number-agree}
 use Rattle.lists.proofs.Runs.{joined-most}
 use Rattle.lists.proofs.Writing.{wrote-size, wrote-taken}
-use Rattle.address.specs.declared.Station.{Station}
-use Rattle.address.specs.Address.{stationOf, stationInRange, sameStation}
-use Rattle.address.specs.Wide.{stationIn}
-use Rattle.chart.specs.declared.ChartNode.{ChartNode}
-use Rattle.chart.specs.declared.Link.{Link}
-use Rattle.chart.specs.declared.Nodes.{Nodes}
-use Rattle.chart.specs.declared.Links.{Links}
 use Rattle.chart.specs.declared.Chart.{Chart}
-use Rattle.chart.specs.Values.{noNode, nodeAt, linkAt, strayByte, nodeInRange, linkInRange, written, used}
-use Rattle.chart.specs.Numbers.{bothWritten, eitherUsed, nodeNumber, linkNumber, questionNumber}
-use Rattle.chart_read.specs.declared.SoFar.{SoFar}
-use Rattle.chart_read.specs.declared.ChartRead.{ChartRead}
+use Rattle.chart.specs.Values.{nodeAt}
 use Rattle.chart_read.specs.Reading.{chartReadOf}
-use Rattle.chart_write.specs.Numbers.{nodesBefore, linksBefore, nodeNumberAt, linkNumberAt, valuesNumber, chartNumber}
-use Rattle.chart_write.specs.Writing.{nodeField, linkField, chartBytes, chartRefusal, chartWriteOf, chartAfter, tidy}
-use Rattle.chart_write.specs.Promises.{ReadUndoesWrite, WriteUndoesRead, SameNumber, chartReaderNumbers, chartWriterNumbers, unlabelledAt, unlabelled, LabelsInRange, LabelsAreInk}
-use Rattle.chart_write.proofs.Laws.{length-node, length-chart, Passed, passed, node-of, refusal-none}
-use Rattle.chart_write.proofs.Agree.{SameNodes, SameLinks, node-agree, link-agree, question-agree, node-like}
+use Rattle.chart_write.specs.Numbers.{valuesNumber, chartNumber}
+use Rattle.chart_write.specs.Writing.{nodeField, chartBytes, chartRefusal, chartWriteOf, chartAfter, tidy}
+use Rattle.chart_write.specs.Promises.{ReadUndoesWrite, WriteUndoesRead, SameNumber}
+use Rattle.chart_write.proofs.Laws.{length-node, length-chart, passed, node-of, refusal-none}
 use Rattle.chart_write.proofs.ReadWhole.{read-written}
-use Rattle.chart_write.proofs.WriteBack.{Undone, Good, read-good}
+use Rattle.chart_write.proofs.WriteBack.{read-good}
 
 -- an accepted chart has at most 1,065 bytes
 pub chart-short : (c : Chart) → chartNumber c ≡ 0 → length (chartBytes c) ≤ 1065

@@ -1,19 +1,19 @@
 -- Writing undoes reading: at each place of an input the bytes before it are those of what is held, so that at the end they are the chart's.
-use Prim.Native.Nat.{ℕ, suc, zero, _+_, _-_, _*_, _/_, _%_, _<_, _≤_}
+use Prim.Native.Nat.{ℕ, suc, zero, _+_, _-_, _*_, _<_, _≤_}
 use mathlib.Core.Path.{_≡_, refl, sym, ap, ap₂, subst, subst₂, _∙_}
 use mathlib.Core.List.{List, [], _∷_, _++_, append-assoc, append-nil}
-use mathlib.Core.Bool.{Bool, true, false, not, cond, _||_}
+use mathlib.Core.Bool.{Bool, true, false, not, cond}
 use native.Mathlib.Decide.{decLt}
 use native.Mathlib.Omega.{arith}
-use lib.ListN.{length, take, drop, getD, set, length-set, length-take, length-drop, length-append, drop-of-length-le}
+use lib.ListN.{length, take, drop, getD, set, length-set, length-drop, length-append, drop-of-length-le}
 use lib.Seq.{take-all, getD-set-same, getD-set-other, getD-drop, length-take-le}
 use lib.Dec.{ltb, leb, eqb}
-use borrow.Author.Tests.{ltb-false, ltb-true, leb-true, leb-false, eqb-true, not-false}
+use borrow.Author.Tests.{ltb-false, leb-true, leb-false, eqb-true, not-false}
 use Rattle.lists.specs.Bytes.{Bytes}
 use Rattle.lists.specs.Places.{elementAt, firsts, row, joined}
 use Rattle.lists.proofs.Bools.{or-neither-of}
 use Rattle.lists.proofs.Places.{firsts-agree, row-at, joined-none}
-use Rattle.lists.proofs.Refusals.{pass, taken}
+use Rattle.lists.proofs.Refusals.{pass}
 use Rattle.lists.proofs.Runs.{firsts-take, joined-set, joined-most}
 use Rattle.address.specs.declared.Station.{Station}
 use Rattle.address.specs.Wide.{stationIn}
