@@ -1,0 +1,50 @@
+-- `search::ends::other_end` meets its contract: its tests are the definition's, in their order.
+use mathlib.Core.Path.{_∙_}
+use borrow.Author.Needs.{needs}
+use borrow.Author.Tests.{eq-eqb, ne-eqb}
+use Rattle.search.specs.Net.{otherOf}
+use Rattle.search.proofs.ends.other_end.Statement.{statement}
+use Rattle.search.proofs.ends.other_end.Tie as tie
+
+returns : tie.Need-returns
+unfolding otherOf
+returns c = simp (ne-eqb _ _ (c .if1 .taken))
+
+array-read-a : tie.Need-array-read-a
+array-read-a c = search needs
+
+array-read-b : tie.Need-array-read-b
+array-read-b c = search needs
+
+node-at-requires : tie.Need-node-at-requires
+node-at-requires c κs = search needs
+
+returns-2 : tie.Need-returns-2
+unfolding otherOf
+returns-2 c = c .node-at .ensures ∙ simp (eq-eqb _ _ (c .before .before .if1 .left), eq-eqb _ _ (c .before .if2 .taken))
+
+node-at-requires-2 : tie.Need-node-at-requires-2
+node-at-requires-2 c κs = search needs
+
+returns-3 : tie.Need-returns-3
+unfolding otherOf
+returns-3 c =
+    c .node-at2 .ensures
+    ∙ simp (eq-eqb _ _ (c .before .before .before .if1 .left), ne-eqb _ _ (c .before .before .if2 .left), eq-eqb _ _ (c .before .if3 .taken))
+
+returns-4 : tie.Need-returns-4
+unfolding otherOf
+returns-4 c = simp (eq-eqb _ _ (c .before .before .if1 .left), ne-eqb _ _ (c .before .if2 .left), ne-eqb _ _ (c .if3 .left))
+
+pub other-end-spec : {M : Type 1} → statement M
+other-end-spec =
+    tie.close
+    (tie.spec
+    returns
+    array-read-a
+    array-read-b
+    node-at-requires
+    returns-2
+    node-at-requires-2
+    returns-3
+    returns-4)
