@@ -1,7 +1,7 @@
 // Accept: a frame, a table and a ledger. The legs of a message that asks for an acknowledgement are added to the ledger, one for each destination.
 use adding::with_legs;
 use address::Port;
-use envelope::Read;
+use envelope_read::Read;
 use ledger::Ledger;
 use refusing::call_refusal;
 use route::Table;
@@ -22,9 +22,9 @@ pub struct Accepted {
 pub fn accept(l: Ledger, frame: &[u8], arrival: Port, table: Table, ticks: u16) -> Accepted
     ensures { λ r. ⌜ r ≡ acceptOf l (now (frame .entry)) arrival table ticks ⌝ }
 {
-    let answer = envelope::read_frame(frame);
+    let answer = envelope_read::read_frame(frame);
     let Read::Envelope(e) = answer else {
-        let number = envelope::read_number(answer);
+        let number = envelope_read::read_number(answer);
         return Accepted {
             number,
             added: 0,

@@ -18,10 +18,12 @@ use Rattle.address.specs.Address.{zeroAddress}
 use Rattle.envelope.specs.declared.Fixed.{Fixed}
 use Rattle.envelope.specs.Frame.{partAt, countOf, fieldsOf, destinationAt}
 use Rattle.envelope.specs.Refusal.{outside, refusalOf}
-use Rattle.envelope.specs.Read.{destinationsOf}
-use Rattle.envelope.proofs.Laws.{count-le, contents-at-taken, destinations-taken}
-use Rattle.envelope_write.specs.declared.Written.{Written}
-use Rattle.envelope_write.specs.Write.{sizeFor, writeRefusal, writeNumber, writeCount, afterOf}
+use Rattle.envelope_read.specs.Read.{destinationsOf}
+use Rattle.envelope.proofs.Laws.{count-le}
+use Rattle.envelope_read.proofs.Laws.{contents-at-taken, destinations-taken}
+use Rattle.lists.specs.declared.Written.{Written}
+use Rattle.envelope_write.specs.Write.{sizeFor, writeRefusal, afterOf}
+use Rattle.lists.specs.Writing.{writeNumber, writeCount}
 use Rattle.envelope_write.proofs.Laws.{count-refused, write-agree, after-agree}
 use Rattle.door.specs.Address.{addressBytes, addressIn}
 use Rattle.door.specs.Envelope.{fieldBytes, envelopeImage, readNumberFor, imageAfter, fieldsIn, destinationIn, strayAck, writeNumberFor, writtenFor, frameAfter}

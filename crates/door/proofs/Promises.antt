@@ -18,8 +18,9 @@ use Rattle.address.specs.Address.{zeroAddress}
 use Rattle.envelope.specs.declared.Fixed.{Fixed}
 use Rattle.envelope.specs.Frame.{fieldsOf}
 use Rattle.envelope.specs.Refusal.{outOfRange, valueRefusal, refusalOf}
-use Rattle.envelope.specs.Read.{contentsOf, contentsAt, destinationsOf}
-use Rattle.envelope.proofs.Laws.{read-whole, count-le}
+use Rattle.envelope_read.specs.Read.{contentsOf, contentsAt, destinationsOf}
+use Rattle.envelope.proofs.Laws.{count-le}
+use Rattle.envelope_read.proofs.Laws.{read-whole}
 use Rattle.envelope_write.specs.Write.{headOf, midOf, bodyOf, bytesOf, writeRefusal, afterOf, carried}
 use Rattle.envelope_write.specs.Promises.{WriteUndoesRead as FrameAgain}
 use Rattle.envelope_write.proofs.Laws.{write-agree, after-agree, wrote}

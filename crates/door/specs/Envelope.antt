@@ -14,7 +14,7 @@ use Rattle.address.specs.Address.{zeroAddress}
 use Rattle.envelope.specs.declared.Fixed.{Fixed}
 use Rattle.envelope.specs.Frame.{fieldsOf}
 use Rattle.envelope.specs.Refusal.{mostDestinations, longestContents, outside, refusalOf}
-use Rattle.envelope.specs.Read.{contentsAt, destinationsOf}
+use Rattle.envelope_read.specs.Read.{contentsAt, destinationsOf}
 use Rattle.envelope_write.specs.Write.{bytesOf, sizeFor, writeRefusal}
 use Rattle.door.specs.Address.{addressBytes, addressIn}
 

@@ -7,7 +7,7 @@ use lib.ListN.{length, drop}
 use lib.Seq.{sets}
 use Rattle.lists.specs.Bytes.{Bytes}
 use Rattle.lists.specs.Places.{row}
-use Rattle.envelope.specs.Read.{contentsOf}
+use Rattle.envelope_read.specs.Read.{contentsOf}
 use Rattle.ledger.specs.declared.Leg.{Leg}
 use Rattle.ledger.specs.declared.Ledger.{Ledger}
 use Rattle.ledger.specs.Rules.{mostLegs, noLeg, legAt}

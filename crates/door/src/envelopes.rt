@@ -8,14 +8,13 @@ use address::Seq;
 use envelope::Fixed;
 use envelope::LONGEST_CONTENTS;
 use envelope::MOST_DESTINATIONS;
-use envelope::Read;
-use envelope_write::Written;
+use envelope_read::Read;
+use lists::Written;
 ghost use mathlib.Core.Path.{_≡_};
 ghost use Prim.Native.Nat.{_+_, _*_, _-_, _≤_};
 ghost use lib.ListN.{length, replicate};
 ghost use lib.Seq.{sets};
 ghost use Rattle.lists.specs.Places.{joined, row};
-ghost use Rattle.lists.specs.Refusals.{refuse};
 ghost use Rattle.address.specs.Address.{zeroAddress};
 ghost use Rattle.envelope.specs.Frame.{destinationAt};
 ghost use Rattle.door.specs.Address.{addressBytes};
@@ -79,9 +78,9 @@ fn put_zeros(image: &mut [u8], at: usize)
 pub extern "C" fn pz_read(frame: &[u8], image: &mut [u8]) -> u8
     ensures { λ r. ⌜ (r ≡ readNumberFor (now (frame .entry)) (length (now (image .entry)))) × (now (image .exit) ≡ imageAfter (now (frame .entry)) (now (image .entry))) ⌝ }
 {
-    let answer = envelope::read_frame(frame);
+    let answer = envelope_read::read_frame(frame);
     let Read::Envelope(e) = answer else {
-        return envelope::read_number(answer);
+        return envelope_read::read_number(answer);
     };
     if image.len() < ENVELOPE_SIZE {
         return 10;
@@ -168,7 +167,7 @@ pub extern "C" fn pz_write(image: &[u8], contents: &[u8], frame: &mut [u8], writ
     let places = places_in(image, e.count as usize);
     let answer = envelope_write::write_frame(e, places, contents, frame);
     let Written::Wrote(n) = answer else {
-        return envelope_write::write_number(answer);
+        return lists::write_number(answer);
     };
     *written = n as u16;
     0

@@ -1,5 +1,3 @@
 pub mod Frame
 pub mod Refusal
-pub mod Read
-pub mod Promises
 pub mod Keys

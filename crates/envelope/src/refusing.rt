@@ -1,6 +1,6 @@
 // The refusals of an envelope's values, 4 to 9.
 use crate::Fixed;
-use crate::places::repeated;
+use crate::keys::repeated;
 ghost use mathlib.Core.Path.{_≡_};
 ghost use lib.Dec.{eqb};
 ghost use Rattle.lists.specs.Places.{elementAt, repeats};

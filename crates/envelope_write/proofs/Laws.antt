@@ -13,7 +13,9 @@ use Rattle.lists.specs.Refusals.{unlessRefused}
 use Rattle.lists.proofs.Bools.{or-right}
 use Rattle.lists.proofs.Places.{Agree, length-joined, joined-agree}
 use Rattle.lists.proofs.Stores.{sets-append, sets-front, taken-front}
+use Rattle.lists.specs.Writing.{writeNumber, writeCount}
 use Rattle.lists.proofs.Refusals.{pass, or-pass, or-refused, taken, refused}
+use Rattle.lists.proofs.Writing.{wrote-number, wrote-count, wrote-size, wrote-taken, wrote-refused}
 use Rattle.address.specs.declared.Address.{Address}
 use Rattle.address.specs.Address.{packOf, sameAddress}
 use Rattle.envelope.specs.declared.Fixed.{Fixed}
@@ -21,9 +23,9 @@ use Rattle.envelope.specs.Frame.{checkOf}
 use Rattle.envelope.specs.Refusal.{outside, outOfRange, valueRefusal, valuesRefusal}
 use Rattle.envelope.specs.Keys.{keyAt}
 use Rattle.envelope.proofs.Laws.{Valued, valued, outside-false, ranged, version-small, keys-agree, values-agree}
-use Rattle.envelope_write.specs.declared.Written.{Written}
-use Rattle.envelope_write.specs.declared.Written.the-variants.{Wrote, Refused}
-use Rattle.envelope_write.specs.Write.{headOf, midOf, bodyOf, bytesOf, sizeFor, writeRefusal, writeNumber, writeCount, writeOf, afterOf}
+use Rattle.lists.specs.declared.Written.{Written}
+use Rattle.lists.specs.declared.Written.the-variants.{Wrote, Refused}
+use Rattle.envelope_write.specs.Write.{headOf, midOf, bodyOf, bytesOf, sizeFor, writeRefusal, writeOf, afterOf}
 use Rattle.envelope_write.specs.Ready.{Ready}
 
 -- ---- the bytes of a frame
@@ -142,15 +144,10 @@ module _ (e : Fixed) (d d' : ℕ → Address) (a : Agree d d' (e .count)) where
   unfolding afterOf
   after-agree l out = rw (write-agree (length l) (length out), bytes-agree l)
 
-size-of : (k n r : ℕ) → unlessRefused r (Wrote n) (Refused r) ≡ Wrote k → (r ≡ 0) × (k ≡ n)
-unfolding unlessRefused
-size-of k n zero h = (refl, cc)
-size-of k n (suc r) h = let z : _≡_ {A = ℕ} 0 1 = cc in absurd (omega arith)
-
 -- an answer that says how many bytes were written is no refusal, and the number is the frame's size
 pub wrote : (e : Fixed) (d : ℕ → Address) (n room : ℕ) {k : ℕ} → writeOf e d n room ≡ Wrote k → (writeRefusal e d n room ≡ 0) × (k ≡ sizeFor e n)
 unfolding writeOf
-wrote e d n room {k} h = size-of k (sizeFor e n) (writeRefusal e d n room) h
+wrote e d n room {k} h = wrote-size k (writeRefusal e d n room) (sizeFor e n) h
 
 -- the largest frame: 63 destinations and L bytes of contents
 pub wrote-small : (e : Fixed) (d : ℕ → Address) (n room k : ℕ) → writeOf e d n room ≡ Wrote k → k ≤ 1222
@@ -161,16 +158,6 @@ wrote-small e d n room k h =
 
 -- ---- all that the writer promises, from its refusal
 
-told-number : (k n : ℕ) → writeNumber (unlessRefused k (Wrote n) (Refused k)) ≡ k
-unfolding unlessRefused
-told-number zero n = refl
-told-number (suc k) n = refl
-
-told-count : (k n : ℕ) → writeCount (unlessRefused k (Wrote n) (Refused k)) ≡ unlessRefused k n 0
-unfolding unlessRefused
-told-count zero n = refl
-told-count (suc k) n = refl
-
 pub record Told (e : Fixed) (d : ℕ → Address) (l out : List ℕ) (r : Written) (after : List ℕ) : Type 0 where
   pub answer : r ≡ writeOf e d (length l) (length out)
   pub buffer : after ≡ afterOf e d l out
@@ -179,13 +166,13 @@ module _ (e : Fixed) (d : ℕ → Address) (l out : List ℕ) where
   pub write-told : {r : Written} → r ≡ writeOf e d (length l) (length out)
       → (writeNumber r ≡ writeRefusal e d (length l) (length out)) × (writeCount r ≡ unlessRefused (writeRefusal e d (length l) (length out)) (sizeFor e (length l)) 0)
   unfolding writeOf
-  write-told h = (ap writeNumber h ∙ told-number _ _, ap writeCount h ∙ told-count _ _)
+  write-told h = (ap writeNumber h ∙ wrote-number _ _, ap writeCount h ∙ wrote-count _ _)
 
   module _ {k : ℕ} (p : k ≡ writeRefusal e d (length l) (length out)) where
     pub write-refused : (k ≡ 0 → ⊥) → Told e d l out (Refused k) out
     unfolding writeOf afterOf
-    write-refused h = record { answer = rw (← p) (sym (refused _ _ k h)); buffer = rw (← p) (sym (refused _ _ k h)) }
+    write-refused h = record { answer = rw (← p) (wrote-refused k _ h); buffer = rw (← p) (sym (refused _ _ k h)) }
 
     pub write-wrote : k ≡ 0 → Told e d l out (Wrote (sizeFor e (length l))) (bytesOf e d l ++ drop (length (bytesOf e d l)) out)
     unfolding writeOf afterOf
-    write-wrote z = record { answer = rw (← p) (sym (taken _ _ z)); buffer = rw (← p) (sym (taken _ _ z)) }
+    write-wrote z = record { answer = rw (← p) (wrote-taken _ z); buffer = rw (← p) (sym (taken _ _ z)) }

@@ -9,16 +9,17 @@ use lib.Seq.{take-at}
 use Rattle.lists.specs.Bytes.{Bytes}
 use Rattle.lists.specs.Places.{elementAt, repeats}
 use Rattle.lists.specs.Refusals.{refuse, orElse, among}
+use Rattle.lists.proofs.Writing.{wrote-taken}
 use Rattle.lists.proofs.Refusals.{taken}
 use Rattle.address.specs.declared.Address.{Address}
 use Rattle.address.specs.Address.{zeroAddress, sameAddress}
 use Rattle.envelope.specs.declared.Fixed.{Fixed}
-use Rattle.envelope.specs.declared.Read.the-variants.{Envelope}
+use Rattle.envelope_read.specs.declared.Read.the-variants.{Envelope}
 use Rattle.envelope.specs.Frame.{fieldsOf}
 use Rattle.envelope.specs.Refusal.{mostDestinations, longestContents, lowestPriority, outside, outOfRange, wrongVersion, valueRefusal}
-use Rattle.envelope.specs.Read.{readOf, contentsOf, destinationsOf}
-use Rattle.envelope.proofs.Laws.{read-envelope}
-use Rattle.envelope_write.specs.declared.Written.the-variants.{Wrote}
+use Rattle.envelope_read.specs.Read.{readOf, contentsOf, destinationsOf}
+use Rattle.envelope_read.proofs.Laws.{read-envelope}
+use Rattle.lists.specs.declared.Written.the-variants.{Wrote}
 use Rattle.envelope_write.specs.Write.{bytesOf, sizeFor, writeRefusal, writeOf, afterOf}
 use Rattle.envelope_write.specs.Promises.{ReadUndoesWrite, WriteUndoesRead, writerNumbers}
 use Rattle.envelope_write.proofs.Laws.{length-bytes, write-taken, wrote}
@@ -49,7 +50,7 @@ write-undoes-read f b e h out room =
     let s : bytesOf (fieldsOf f) d (contentsOf f) ≡ f = bytes-again f b (o .none) in
     rw (o .same)
     (record {
-      answer = taken _ _ z ∙ ap Wrote (sym (length-bytes (fieldsOf f) d (contentsOf f)) ∙ ap length s);
+      answer = sym (wrote-taken _ z) ∙ ap Wrote (sym (length-bytes (fieldsOf f) d (contentsOf f)) ∙ ap length s);
       bytes = taken _ _ z ∙ ap (λ (x : List ℕ). x ++ drop (length x) out) s;
     })
 

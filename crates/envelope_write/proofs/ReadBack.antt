@@ -16,11 +16,12 @@ use Rattle.address.specs.declared.Address.{Address}
 use Rattle.address.specs.Address.{inRange, sameAddress, packOf, unpackAt, zeroAddress}
 use Rattle.address.proofs.Laws.{undo}
 use Rattle.envelope.specs.declared.Fixed.{Fixed}
-use Rattle.envelope.specs.declared.Read.the-variants.{Envelope}
+use Rattle.envelope_read.specs.declared.Read.the-variants.{Envelope}
 use Rattle.envelope.specs.Frame.{partAt, protAt, contentsStart, countOf, lengthOf, sizeOf, fieldsOf, destinationAt, checkOf}
 use Rattle.envelope.specs.Refusal.{outOfRange, frameRefusal, valueRefusal, valuesRefusal, refusalOf}
-use Rattle.envelope.specs.Read.{readOf, contentsOf, destinationsOf}
-use Rattle.envelope.proofs.Laws.{values-agree, Valued, valued, outside-false, Ranged, ranged, version-small, read-whole, contents-taken, destinations-taken}
+use Rattle.envelope_read.specs.Read.{readOf, contentsOf, destinationsOf}
+use Rattle.envelope.proofs.Laws.{values-agree, Valued, valued, outside-false, Ranged, ranged, version-small}
+use Rattle.envelope_read.proofs.Laws.{read-whole, contents-taken, destinations-taken}
 use Rattle.envelope_write.specs.Write.{headOf, midOf, bodyOf, bytesOf, carried}
 use Rattle.envelope_write.proofs.Laws.{length-pack, length-head, length-mid, length-packs, length-body, length-bytes}
 

@@ -7,9 +7,9 @@ use Rattle.lists.specs.Places.{elementAt, row}
 use Rattle.address.specs.declared.Address.{Address}
 use Rattle.address.specs.Address.{zeroAddress}
 use Rattle.envelope.specs.declared.Fixed.{Fixed}
-use Rattle.envelope.specs.declared.Read.the-variants.{Envelope}
-use Rattle.envelope.specs.Read.{readOf, contentsOf, destinationsOf}
-use Rattle.envelope_write.specs.declared.Written.the-variants.{Wrote}
+use Rattle.envelope_read.specs.declared.Read.the-variants.{Envelope}
+use Rattle.envelope_read.specs.Read.{readOf, contentsOf, destinationsOf}
+use Rattle.lists.specs.declared.Written.the-variants.{Wrote}
 use Rattle.envelope_write.specs.Write.{writeOf, afterOf, carried}
 
 -- reading undoes writing: of the n bytes that were written, the readers give the values back, apart from what the writer does not look at

@@ -7,13 +7,13 @@ use lib.ListN.{length, drop}
 use Rattle.lists.specs.Bytes.{wordBytes}
 use Rattle.lists.specs.Places.{joined}
 use Rattle.lists.specs.Refusals.{refuse, orElse, unlessRefused}
+use Rattle.lists.specs.declared.Written.{Written}
+use Rattle.lists.specs.Writing.{wroteUnless}
 use Rattle.address.specs.declared.Address.{Address}
 use Rattle.address.specs.Address.{packOf}
 use Rattle.envelope.specs.declared.Fixed.{Fixed}
 use Rattle.envelope.specs.Frame.{checkOf}
 use Rattle.envelope.specs.Refusal.{valuesRefusal}
-use Rattle.envelope_write.specs.declared.Written.{Written}
-use Rattle.envelope_write.specs.declared.Written.the-variants.{Wrote, Refused}
 
 -- <source> and <count&length>, with n the length of the contents; the fields' own length is not looked at
 unfoldable pub headOf : Fixed → ℕ → List ℕ
@@ -39,18 +39,9 @@ sizeFor e n = 10 + 3 * e .count + n
 unfoldable pub writeRefusal : Fixed → (ℕ → Address) → ℕ → ℕ → ℕ
 writeRefusal e d n room = orElse (valuesRefusal e n d) (refuse 10 (ltb room (sizeFor e n)) 0)
 
--- document 01's number and value for each case of an answer: no byte is written beside a refusal
-abbrev pub writeNumber : Written → ℕ
-writeNumber (Wrote n) = 0
-writeNumber (Refused k) = k
-
-abbrev pub writeCount : Written → ℕ
-writeCount (Wrote n) = n
-writeCount (Refused k) = 0
-
 -- the number of bytes written, or the refusal
 unfoldable pub writeOf : Fixed → (ℕ → Address) → ℕ → ℕ → Written
-writeOf e d n room = unlessRefused (writeRefusal e d n room) (Wrote (sizeFor e n)) (Refused (writeRefusal e d n room))
+writeOf e d n room = wroteUnless (writeRefusal e d n room) (sizeFor e n)
 
 -- what the buffer then holds: the frame, and what stood after it; on a refusal what it held
 unfoldable pub afterOf : Fixed → (ℕ → Address) → List ℕ → List ℕ → List ℕ

@@ -1,6 +1,7 @@
 // The envelope written (3.3, appendix A): its frame is put into a lent buffer, or a refusal is given and the buffer is left as it was.
 use address::Address;
 use envelope::Fixed;
+use lists::Written;
 use refusing::write_refusal;
 use storing::put_frame;
 ghost use mathlib.Core.Path.{_≡_};
@@ -8,15 +9,11 @@ ghost use lib.ListN.{length};
 ghost use Rattle.lists.specs.Places.{elementAt};
 ghost use Rattle.address.specs.Address.{zeroAddress};
 ghost use Rattle.lists.specs.Refusals.{unlessRefused};
-ghost use Rattle.envelope_write.specs.Write.{sizeFor, writeRefusal, writeNumber, writeCount, writeOf, afterOf};
+ghost use Rattle.lists.specs.Writing.{writeNumber, writeCount};
+ghost use Rattle.envelope_write.specs.Write.{sizeFor, writeRefusal, writeOf, afterOf};
 
 mod refusing;
 mod storing;
-
-pub enum Written {
-    Wrote(usize),
-    Refused(u8),
-}
 
 // Writes an envelope into out, and gives the number of bytes written, or the refusal. Places past the count, and the fields' length, are not looked at.
 pub fn write_frame(e: Fixed, places: [Address; 63], contents: &[u8], out: &mut [u8]) -> Written
@@ -31,14 +28,4 @@ pub fn write_frame(e: Fixed, places: [Address; 63], contents: &[u8], out: &mut [
     }
     let n = put_frame(e, places, contents, out);
     Written::Wrote(n)
-}
-
-// Document 01's number of an answer: 0 where a frame was written.
-pub fn write_number(answer: Written) -> u8
-    ensures { λ r. ⌜ r ≡ writeNumber answer ⌝ }
-{
-    match answer {
-        Written::Wrote(_) => 0,
-        Written::Refused(number) => number,
-    }
 }

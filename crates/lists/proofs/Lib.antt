@@ -3,3 +3,5 @@ pub mod Places
 pub mod Stores
 pub mod Lists
 pub mod Refusals
+pub mod Chains
+pub mod Writing

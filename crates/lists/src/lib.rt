@@ -1,9 +1,26 @@
-// Bytes of a slice, read and stored at any place: a place past the end reads as 0, and nothing is stored there.
+// Bytes of a slice, read and stored at any place: a place past the end reads as 0, and nothing is stored there. And what a writer of bytes answers.
 ghost use mathlib.Core.Path.{_≡_};
 ghost use Prim.Native.Nat.{_+_, _*_, _≤_};
 ghost use lib.ListN.{length, getD};
 ghost use lib.Seq.{sets};
 ghost use Rattle.lists.specs.Bytes.{wordAt};
+ghost use Rattle.lists.specs.Writing.{writeNumber};
+
+// What a writer answers: the number of bytes written, or the refusal.
+pub enum Written {
+    Wrote(usize),
+    Refused(u8),
+}
+
+// Document 01's number of a writer's answer: 0 where something was written.
+pub fn write_number(answer: Written) -> u8
+    ensures { λ r. ⌜ r ≡ writeNumber answer ⌝ }
+{
+    match answer {
+        Written::Wrote(_) => 0,
+        Written::Refused(number) => number,
+    }
+}
 
 // The byte at a place.
 pub fn byte_at(s: &[u8], at: usize) -> u8

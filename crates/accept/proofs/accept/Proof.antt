@@ -4,7 +4,8 @@ use borrow.Author.Tests.{not-true, not-false}
 use Rattle.lists.specs.Bytes.{Bytes}
 use Rattle.envelope.specs.Frame.{fieldsOf}
 use Rattle.envelope.specs.Refusal.{refusalOf}
-use Rattle.envelope.proofs.Laws.{Opened, read-envelope, read-refused, accepted}
+use Rattle.envelope.proofs.Laws.{accepted}
+use Rattle.envelope_read.proofs.Laws.{Opened, read-envelope, read-refused}
 use Rattle.ledger.proofs.Laws.{obedient}
 use Rattle.accept.specs.Accept.{acceptNumber}
 use Rattle.accept.proofs.Laws.{called, roomy, accept-refused, frame-number, call-number, accept-quiet, accept-added}

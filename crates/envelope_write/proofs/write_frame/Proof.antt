@@ -3,7 +3,7 @@ use mathlib.Core.Path.{sym, _∙_, ap}
 use lib.ListN.{length}
 use Rattle.lists.specs.Places.{elementAt}
 use Rattle.address.specs.Address.{zeroAddress}
-use Rattle.envelope_write.specs.declared.Written.the-variants.{Wrote}
+use Rattle.lists.specs.declared.Written.the-variants.{Wrote}
 use Rattle.envelope_write.proofs.Laws.{ready, bytes-stored, write-told, write-refused, write-wrote}
 use borrow.Author.Needs.{needs}
 use Rattle.envelope_write.proofs.write_frame.Statement.{statement}

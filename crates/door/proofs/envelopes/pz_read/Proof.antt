@@ -4,7 +4,8 @@ use lib.ListN.{length}
 use Rattle.envelope.specs.declared.Fixed.{Fixed}
 use Rattle.envelope.specs.Frame.{countOf, fieldsOf}
 use Rattle.envelope.specs.Refusal.{refusalOf}
-use Rattle.envelope.proofs.Laws.{Opened, read-envelope, accepted, count-le, part-from, read-refused as frame-refused}
+use Rattle.envelope.proofs.Laws.{accepted, count-le, part-from}
+use Rattle.envelope_read.proofs.Laws.{Opened, read-envelope, read-refused as frame-refused}
 use Rattle.door.specs.Envelope.{fieldBytes}
 use Rattle.door.proofs.Laws.{read-refused, read-short, read-done}
 use native.Mathlib.Omega.{arith}

@@ -1,6 +1,6 @@
 -- `door::envelopes::pz_write` meets its contract: the refusals of the image come first, and then the writer's own answer.
 use mathlib.Core.Path.{sym, _∙_, ap}
-use Rattle.envelope_write.specs.Write.{writeNumber, writeCount}
+use Rattle.lists.specs.Writing.{writeNumber, writeCount}
 use Rattle.envelope_write.proofs.Laws.{wrote-small}
 use Rattle.door.proofs.Laws.{write-image-short, write-stray, write-many, write-done}
 use native.Mathlib.Omega.{arith}

@@ -1,0 +1,50 @@
+-- The numbers 23 to 30 of one value, after the nodes and links before it: the lowest that applies, 0 where none does (document 01, "The chart").
+use Prim.Native.Nat.{ℕ}
+use mathlib.Core.Bool.{Bool, not, _&&_, _||_}
+use lib.Dec.{ltb, leb}
+use Rattle.lists.specs.Refusals.{refuse}
+use Rattle.address.specs.declared.Station.{Station}
+use Rattle.address.specs.Address.{stationOf, stationInRange, sameStation}
+use Rattle.chart.specs.declared.ChartNode.{ChartNode}
+use Rattle.chart.specs.declared.Link.{Link}
+use Rattle.chart.specs.declared.Nodes.{Nodes}
+use Rattle.chart.specs.declared.Links.{Links}
+use Rattle.chart.specs.Values.{mostNodes, mostLinks, longestLabel, nodeInRange, linkInRange, written, used}
+
+-- both stations are among the nodes
+unfoldable pub bothWritten : Nodes → Station → Station → Bool
+bothWritten ns s t = written ns s && written ns t
+
+-- one of a link's ends is an end of an earlier link
+unfoldable pub eitherUsed : Links → Link → Bool
+eitherUsed ls l = used ls (l .a) || used ls (l .b)
+
+-- a node's number: 23 its label would give the field a length that a node does not allow, 24 a value out of range, 25 it comes too late,
+-- 26 the nodes are 16 already, 27 one of them has its station
+unfoldable pub nodeNumber : Bool → Nodes → ChartNode → ℕ
+nodeNumber late ns n =
+    refuse 23 (ltb longestLabel (n .length))
+    (refuse 24 (not (nodeInRange n))
+    (refuse 25 late
+    (refuse 26 (leb mostNodes (ns .count))
+    (refuse 27 (written ns (n .station)) 0))))
+
+-- a link's number: 24 a value out of range, 25 it comes too late, 26 the links are 48 already (or the nodes too many), 28 an end at no node,
+-- 29 both ends at one node, 30 an end that an earlier link has
+unfoldable pub linkNumber : Bool → Nodes → Links → Link → ℕ
+linkNumber late ns ls l =
+    refuse 24 (not (linkInRange l))
+    (refuse 25 late
+    (refuse 26 (ltb mostNodes (ns .count))
+    (refuse 26 (leb mostLinks (ls .count))
+    (refuse 28 (not (bothWritten ns (stationOf (l .a)) (stationOf (l .b))))
+    (refuse 29 (sameStation (stationOf (l .a)) (stationOf (l .b)))
+    (refuse 30 (eitherUsed ls l) 0))))))
+
+-- the question's number: 24 a value out of range, 25 it comes too late, 26 the nodes are too many, 28 a station at no node
+unfoldable pub questionNumber : Bool → Nodes → Station → Station → ℕ
+questionNumber late ns from to =
+    refuse 24 (not (stationInRange from && stationInRange to))
+    (refuse 25 late
+    (refuse 26 (ltb mostNodes (ns .count))
+    (refuse 28 (not (bothWritten ns from to)) 0)))

@@ -1,0 +1,52 @@
+-- The chart S of document 01 ("The printed sheet", "Cases at the edges"), as values, and its variants of the P cases.
+use Prim.Native.Nat.{ℕ, _-_}
+use mathlib.Core.List.{List, [], _∷_, _++_}
+use mathlib.Core.Bool.{Bool, true, false}
+use lib.ListN.{length, replicate}
+use Rattle.address.specs.declared.Station.{Station}
+use Rattle.chart.specs.declared.ChartNode.{ChartNode}
+use Rattle.chart.specs.declared.Link.{Link}
+use Rattle.chart.specs.declared.Chart.{Chart}
+use Rattle.chart.specs.Values.{noNode, noLink}
+
+-- brigade 9, node n
+abbrev pub stationS : ℕ → Station
+stationS n = record { brigade = 9; node = record { 0 = n } }
+
+abbrev pub nodeS : ℕ → List ℕ → ChartNode
+nodeS n label = record { station = stationS n; length = length label; label = label ++ replicate (24 - length label) 0 }
+
+-- from node a, port p to node b, port q
+abbrev pub linkS : ℕ → ℕ → ℕ → ℕ → Bool → Link
+linkS a p b q on =
+    record {
+      a = record { brigade = 9; node = record { 0 = a }; port = record { 0 = p } };
+      b = record { brigade = 9; node = record { 0 = b }; port = record { 0 = q } };
+      on = on;
+    }
+
+-- "Control", "Hill", "Quay"
+abbrev pub control : List ℕ
+control = 67 ∷ 111 ∷ 110 ∷ 116 ∷ 114 ∷ 111 ∷ 108 ∷ []
+
+abbrev pub hill : List ℕ
+hill = 72 ∷ 105 ∷ 108 ∷ 108 ∷ []
+
+abbrev pub quay : List ℕ
+quay = 81 ∷ 117 ∷ 97 ∷ 121 ∷ []
+
+-- links 0 and 1 on or off, link 4 on or off, asked from 9/1 to 9/t
+unfoldable pub sample : Bool → Bool → ℕ → Chart
+sample first fourth t =
+    record {
+      nodes = record { count = 4; items = nodeS 1 control ∷ nodeS 20 hill ∷ nodeS 21 hill ∷ nodeS 30 quay ∷ replicate 12 noNode };
+      links = record {
+        count = 6;
+        items = linkS 1 2 20 1 first ∷ linkS 1 3 21 1 first ∷ linkS 20 2 30 1 true ∷ linkS 21 2 30 2 true ∷ linkS 20 3 21 3 fourth ∷ linkS 1 4 30 3 false ∷ replicate 42 noLink;
+      };
+      from = stationS 1;
+      to = stationS t;
+    }
+
+abbrev pub S : Chart
+S = sample true true 30

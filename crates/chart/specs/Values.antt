@@ -1,0 +1,96 @@
+-- The chart as values (document 01, "The chart"): which values are in range, which nodes are written and which ends are used.
+use Prim.Native.Nat.{ℕ}
+use mathlib.Core.List.{List}
+use mathlib.Core.Bool.{Bool, false, not, _&&_, _||_}
+use lib.ListN.{getD, replicate}
+use lib.Dec.{ltb, leb}
+use Rattle.lists.specs.Places.{anyBelow, elementAt}
+use Rattle.address.specs.declared.Station.{Station}
+use Rattle.address.specs.declared.Address.{Address}
+use Rattle.address.specs.Address.{stationOf, stationInRange, inRange, sameStation, sameAddress, zeroAddress}
+use Rattle.chart.specs.declared.ChartNode.{ChartNode}
+use Rattle.chart.specs.declared.Link.{Link}
+use Rattle.chart.specs.declared.Nodes.{Nodes}
+use Rattle.chart.specs.declared.Links.{Links}
+use Rattle.chart.specs.declared.Chart.{Chart}
+
+-- the limits: 16 nodes, 48 links, 24 bytes of label, each 32 to 126
+abbrev pub mostNodes : ℕ
+mostNodes = 16
+
+abbrev pub mostLinks : ℕ
+mostLinks = 48
+
+abbrev pub longestLabel : ℕ
+longestLabel = 24
+
+abbrev pub lowestByte : ℕ
+lowestByte = 32
+
+abbrev pub highestByte : ℕ
+highestByte = 126
+
+-- what stands at an unused place: every number 0
+abbrev pub noStation : Station
+noStation = stationOf zeroAddress
+
+abbrev pub noNode : ChartNode
+noNode = record { station = noStation; length = 0; label = replicate 24 0 }
+
+abbrev pub noLink : Link
+noLink = record { a = zeroAddress; b = zeroAddress; on = false }
+
+-- the chart that stands beside a refusal: every number 0
+unfoldable pub noChart : Chart
+noChart =
+    record {
+      nodes = record { count = 0; items = replicate 16 noNode };
+      links = record { count = 0; items = replicate 48 noLink };
+      from = noStation;
+      to = noStation;
+    }
+
+-- the node and the link at a place
+unfoldable pub nodeAt : Nodes → ℕ → ChartNode
+nodeAt ns i = elementAt noNode (ns .items) i
+
+unfoldable pub linkAt : Links → ℕ → Link
+linkAt ls i = elementAt noLink (ls .items) i
+
+-- ---- ranges
+
+-- the byte at a place of a label is none of 32 to 126
+unfoldable pub strayByte : List ℕ → ℕ → Bool
+strayByte label i = ltb (getD label i 0) lowestByte || ltb highestByte (getD label i 0)
+
+-- the station is in range, and so is each byte of the label
+unfoldable pub nodeInRange : ChartNode → Bool
+nodeInRange n = stationInRange (n .station) && not (anyBelow (strayByte (n .label)) (n .length))
+
+-- a link's end is an address with a port 1 to 63: port 0 is the router
+unfoldable pub endInRange : Address → Bool
+endInRange e = leb 1 (e .port .0) && inRange e
+
+unfoldable pub linkInRange : Link → Bool
+linkInRange l = endInRange (l .a) && endInRange (l .b)
+
+-- ---- what is written
+
+-- the node at a place stands at this station: its brigade and node number are compared, its label is not looked at
+unfoldable pub standsAt : Nodes → Station → ℕ → Bool
+standsAt ns s i = sameStation (nodeAt ns i .station) s
+
+-- a node at this station is among the nodes
+unfoldable pub written : Nodes → Station → Bool
+written ns s = anyBelow (standsAt ns s) (ns .count)
+
+-- the address is an end of the link
+unfoldable pub isEnd : Address → Link → Bool
+isEnd e l = sameAddress (l .a) e || sameAddress (l .b) e
+
+unfoldable pub endsAt : Links → Address → ℕ → Bool
+endsAt ls e i = isEnd e (linkAt ls i)
+
+-- the address is an end of one of the links
+unfoldable pub used : Links → Address → Bool
+used ls e = anyBelow (endsAt ls e) (ls .count)

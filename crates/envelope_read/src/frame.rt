@@ -1,0 +1,51 @@
+// A frame's fields where they stand (appendix A, <envelope>), and whether it is whole: refusals 1 to 3.
+use address::Seq;
+use envelope::Fixed;
+ghost use mathlib.Core.Path.{_≡_};
+ghost use Rattle.envelope.specs.Frame.{fieldsOf};
+ghost use Rattle.envelope.specs.Refusal.{frameRefusal};
+
+// The fixed fields; a byte past the end counts as 0.
+pub fn fields(frame: &[u8]) -> Fixed
+    ensures { λ r. ⌜ r ≡ fieldsOf (now (frame .entry)) ⌝ }
+{
+    let source = address::unpack(frame, 0);
+    let w = lists::word_at(frame, 3);
+    let prot = 5 + 3 * ((w % 64) as usize);
+    let p = lists::byte_at(frame, prot);
+    let a = lists::word_at(frame, prot + 1);
+    let kind = lists::byte_at(frame, prot + 3);
+    Fixed {
+        source,
+        count: (w % 64) as u8,
+        length: w / 64,
+        priority: p / 16,
+        version: p % 16,
+        ack: a % 2 == 1,
+        seq: Seq(a / 2),
+        kind,
+    }
+}
+
+// Refusals 1 to 3, or 0.
+pub fn frame_refusal(frame: &[u8]) -> u8
+    ensures { λ r. ⌜ r ≡ frameRefusal (now (frame .entry)) ⌝ }
+{
+    let n = frame.len();
+    if n < 10 {
+        return 1;
+    }
+    let w = lists::word_at(frame, 3) as usize;
+    let size = 10 + 3 * (w % 64) + w / 64;
+    if n < size {
+        return 1;
+    }
+    if size < n {
+        return 2;
+    }
+    if envelope::check(&frame[..n - 1]) == frame[n - 1] {
+        0
+    } else {
+        3
+    }
+}

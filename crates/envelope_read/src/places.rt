@@ -1,0 +1,51 @@
+// The destinations of a frame: as values in 63 places, the unused ones zero, and as keys.
+use address::Address;
+use address::Node;
+use address::Port;
+ghost use mathlib.Core.Path.{_≡_};
+ghost use Prim.Native.Nat.{_≤_};
+ghost use lib.ListN.{replicate};
+ghost use Rattle.lists.specs.Places.{row};
+ghost use Rattle.address.specs.Address.{zeroAddress};
+ghost use Rattle.envelope.specs.Frame.{destinationAt};
+ghost use Rattle.envelope.specs.Keys.{keyAt};
+
+pub fn no_places() -> [Address; 63]
+    ensures { λ r. ⌜ r ≡ replicate 63 zeroAddress ⌝ }
+{
+    let a = Address {
+        brigade: 0,
+        node: Node(0),
+        port: Port(0),
+    };
+    [a; 63]
+}
+
+// The first n destinations of the part of a frame that begins with them.
+pub fn read_places(part: &[u8], n: usize) -> [Address; 63]
+    requires { ⌜ n ≤ 63 ⌝ }
+    ensures { λ r. ⌜ r ≡ row 63 zeroAddress (destinationAt (now (part .entry))) n ⌝ }
+{
+    let mut places = no_places();
+    let mut i = 0;
+    while i < n {
+        let a = envelope::destination(part, i as u8);
+        places[i] = a;
+        i += 1;
+    }
+    places
+}
+
+// The keys of the first n destinations of the part of a frame that begins with them.
+pub fn keys_in(part: &[u8], n: usize) -> [u32; 63]
+    requires { ⌜ n ≤ 63 ⌝ }
+    ensures { λ r. ⌜ r ≡ row 63 0 (keyAt (destinationAt (now (part .entry)))) n ⌝ }
+{
+    let mut keys = [0u32; 63];
+    let mut i = 0;
+    while i < n {
+        keys[i] = address::key(envelope::destination(part, i as u8));
+        i += 1;
+    }
+    keys
+}
