@@ -15,7 +15,7 @@ use Rattle.routes.specs.Route.{Sound, also, only}
 use Rattle.routes.specs.All.{unmet}
 use Rattle.routes.proofs.Tests.{either}
 use Rattle.routes.proofs.Laws.{also-self, also-other, unmet-also, unmet-only}
-use Rattle.search.specs.Net.{nodeAt, otherOf, farOf, nodeOf, net, metOf, onlyMet}
+use Rattle.search.specs.Net.{nodePlace, otherOf, farOf, nodeOf, net, metOf, onlyMet}
 use Rattle.search.specs.Steps.{ifOpen, openOf, wayFrom}
 use Rattle.search.specs.declared.Far.{Far}
 use Rattle.search.specs.declared.Far.the-variants.{Node, None}
@@ -27,15 +27,15 @@ never z = absurd (omega arith)
 
 -- ---- far ends
 
-node-below : (m n : ℕ) → nodeAt m ≡ Node n → n < 16
-unfolding nodeAt
+node-below : (m n : ℕ) → nodePlace m ≡ Node n → n < 16
+unfolding nodePlace
 node-below m n e = go (ltb m 16) refl e
   where
     go : (b : Bool) → ltb m 16 ≡ b → cond b (Node m) None ≡ Node n → n < 16
     go true h q = let z : m ≡ n = cc in let l = ltb-true m 16 h in omega arith
     go false h q = never (cc)
 
-other-below : (o p q : Bool) (a b n : ℕ) → cond o (cond p (nodeAt b) (cond q (nodeAt a) None)) None ≡ Node n → n < 16
+other-below : (o p q : Bool) (a b n : ℕ) → cond o (cond p (nodePlace b) (cond q (nodePlace a) None)) None ≡ Node n → n < 16
 other-below false p q a b n e = never (cc)
 other-below true true q a b n e = node-below b n e
 other-below true false true a b n e = node-below a n e

@@ -17,7 +17,7 @@ use Rattle.search.specs.declared.Traced.{Traced}
 use Rattle.search.specs.declared.Traced.the-variants.{Refused}
 use Rattle.search.specs.declared.Found.{Found}
 use Rattle.search.specs.Net.{net, metOf, onlyMet}
-use Rattle.search.specs.Answers.{tracedNumber, tracedLength, answerNumber, answerRoute, Told, told, firstNumber, nextNumber, firstRoute, nextRoute, placesNumber, routesIn, firstNumberIn, nextNumberIn, firstIn, nextIn}
+use Rattle.search.specs.Answers.{tracedNumber, tracedLength, answerNumber, answerRoute, Told, told, firstRefusal, nextRefusal, firstRoute, nextRoute, placesNumber, routesIn, firstRefusalIn, nextRefusalIn, firstIn, nextIn}
 use Rattle.search.specs.Steps.{zeros, foundAt, handedOver}
 use Rattle.search.proofs.Leading.{only-flags}
 use Rattle.search.proofs.Finding.{first-some}
@@ -80,25 +80,25 @@ unfolding placesNumber
 places-right links from h k = rw (le-ltb 48 links h, lt-leb 16 from k)
 
 module _ (rs : List (List ℕ)) (buf : List ℕ) where
-  pub first-short : length buf < 15 → firstNumber rs buf ≡ 42
-  unfolding firstNumber
+  pub first-short : length buf < 15 → firstRefusal rs buf ≡ 42
+  unfolding firstRefusal
   first-short h = rw (lt-ltb (length buf) 15 h)
 
-  pub first-room : 15 ≤ length buf → firstNumber rs buf ≡ answerNumber (firstOf rs)
-  unfolding firstNumber
+  pub first-room : 15 ≤ length buf → firstRefusal rs buf ≡ answerNumber (firstOf rs)
+  unfolding firstRefusal
   first-room h = rw (le-ltb (length buf) 15 h)
 
   module _ (n : ℕ) where
-    pub next-short : length buf < 15 → nextNumber rs buf n ≡ 42
-    unfolding nextNumber
+    pub next-short : length buf < 15 → nextRefusal rs buf n ≡ 42
+    unfolding nextRefusal
     next-short h = rw (lt-ltb (length buf) 15 h)
 
-    pub next-long : 15 ≤ length buf → 15 < n → nextNumber rs buf n ≡ 41
-    unfolding nextNumber
+    pub next-long : 15 ≤ length buf → 15 < n → nextRefusal rs buf n ≡ 41
+    unfolding nextRefusal
     next-long h k = rw (le-ltb (length buf) 15 h, lt-ltb 15 n k)
 
-    pub next-room : 15 ≤ length buf → n ≤ 15 → nextNumber rs buf n ≡ answerNumber (nextOf rs (take n buf))
-    unfolding nextNumber
+    pub next-room : 15 ≤ length buf → n ≤ 15 → nextRefusal rs buf n ≡ answerNumber (nextOf rs (take n buf))
+    unfolding nextRefusal
     next-room h k = rw (le-ltb (length buf) 15 h, le-ltb 15 n k)
 
 -- ---- the two calls over the arrays: each way that the code returns
@@ -109,43 +109,43 @@ module _ (ends : List (List ℕ)) (ways : List ℕ) (links from to : ℕ) where
 
   -- what first and next promise of an answer and the bytes after it
   abbrev pub FirstGives : List ℕ → Told → Type 0
-  FirstGives buf t = Promised (firstNumberIn ends ways links from to buf) (firstRoute (routesIn ends ways links from to)) buf (firstIn ends ways links from to buf) t
+  FirstGives buf t = Promised (firstRefusalIn ends ways links from to buf) (firstRoute (routesIn ends ways links from to)) buf (firstIn ends ways links from to buf) t
 
   abbrev pub NextGives : List ℕ → ℕ → Told → Type 0
-  NextGives buf n t = Promised (nextNumberIn ends ways links from to buf n) (nextRoute (routesIn ends ways links from to) buf n) buf (nextIn ends ways links from to buf n) t
+  NextGives buf n t = Promised (nextRefusalIn ends ways links from to buf n) (nextRoute (routesIn ends ways links from to) buf n) buf (nextIn ends ways links from to buf n) t
 
-  first-refuses : (k : ℕ) (buf : List ℕ) → firstNumberIn ends ways links from to buf ≡ suc k → FirstGives buf (refusal (suc k) buf)
+  first-refuses : (k : ℕ) (buf : List ℕ) → firstRefusalIn ends ways links from to buf ≡ suc k → FirstGives buf (refusal (suc k) buf)
   unfolding firstIn
-  first-refuses k buf e = refusing (firstNumberIn ends ways links from to buf) k (firstRoute rs) buf e
+  first-refuses k buf e = refusing (firstRefusalIn ends ways links from to buf) k (firstRoute rs) buf e
 
-  next-refuses : (k : ℕ) (buf : List ℕ) (n : ℕ) → nextNumberIn ends ways links from to buf n ≡ suc k → NextGives buf n (refusal (suc k) buf)
+  next-refuses : (k : ℕ) (buf : List ℕ) (n : ℕ) → nextRefusalIn ends ways links from to buf n ≡ suc k → NextGives buf n (refusal (suc k) buf)
   unfolding nextIn
-  next-refuses k buf n e = refusing (nextNumberIn ends ways links from to buf n) k (nextRoute rs buf n) buf e
+  next-refuses k buf n e = refusing (nextRefusalIn ends ways links from to buf n) k (nextRoute rs buf n) buf e
 
   -- 26 and 28 come before all others
   pub first-many : (buf : List ℕ) → 48 < links → FirstGives buf (refusal 26 buf)
-  unfolding firstNumberIn
+  unfolding firstRefusalIn
   first-many buf h = first-refuses 25 buf (rw (too-many links from h))
 
   pub next-many : (buf : List ℕ) (n : ℕ) → 48 < links → NextGives buf n (refusal 26 buf)
-  unfolding nextNumberIn
+  unfolding nextRefusalIn
   next-many buf n h = next-refuses 25 buf n (rw (too-many links from h))
 
   pub first-placeless : (buf : List ℕ) → links ≤ 48 → 16 ≤ from → FirstGives buf (refusal 28 buf)
-  unfolding firstNumberIn
+  unfolding firstRefusalIn
   first-placeless buf h k = first-refuses 27 buf (rw (no-place links from h k))
 
   pub next-placeless : (buf : List ℕ) (n : ℕ) → links ≤ 48 → 16 ≤ from → NextGives buf n (refusal 28 buf)
-  unfolding nextNumberIn
+  unfolding nextRefusalIn
   next-placeless buf n h k = next-refuses 27 buf n (rw (no-place links from h k))
 
   module _ (few : links ≤ 48) (inside : from < 16) where
-    pub first-numbered : (buf : List ℕ) → firstNumberIn ends ways links from to buf ≡ firstNumber rs buf
-    unfolding firstNumberIn
+    pub first-numbered : (buf : List ℕ) → firstRefusalIn ends ways links from to buf ≡ firstRefusal rs buf
+    unfolding firstRefusalIn
     first-numbered buf = rw (places-right links from few inside)
 
-    pub next-numbered : (buf : List ℕ) (n : ℕ) → nextNumberIn ends ways links from to buf n ≡ nextNumber rs buf n
-    unfolding nextNumberIn
+    pub next-numbered : (buf : List ℕ) (n : ℕ) → nextRefusalIn ends ways links from to buf n ≡ nextRefusal rs buf n
+    unfolding nextRefusalIn
     next-numbered buf n = rw (places-right links from few inside)
 
     -- the search begins with the first node met
@@ -180,14 +180,14 @@ module _ (ends : List (List ℕ)) (ways : List ℕ) (links from to : ℕ) where
     pub first-told : (buf : List ℕ) (f : Found) → 15 ≤ length buf → f ≡ foundAt 0 (firstOf rs) → FirstGives buf (handedOver f buf)
     unfolding firstIn
     first-told buf f h e =
-        let w : firstNumberIn ends ways links from to buf ≡ answerNumber (firstOf rs) = first-numbered buf ∙ first-room rs buf h in
-        as-told (firstNumberIn ends ways links from to buf) (firstRoute rs) buf (handedOver f buf)
+        let w : firstRefusalIn ends ways links from to buf ≡ answerNumber (firstOf rs) = first-numbered buf ∙ first-room rs buf h in
+        as-told (firstRefusalIn ends ways links from to buf) (firstRoute rs) buf (handedOver f buf)
         (ap (λ (g : Found). handedOver g buf) e ∙ found-told (firstOf rs) buf (first-some rs) ∙ ap (λ (k : ℕ). told k (firstRoute rs) buf) (sym w))
 
     pub next-told : (buf : List ℕ) (n : ℕ) (f : Found) → 15 ≤ length buf → n ≤ 15 → (nextOf rs (take n buf) ≡ noRoute → ⊥)
         → f ≡ foundAt 0 (nextOf rs (take n buf)) → NextGives buf n (handedOver f buf)
     unfolding nextIn
     next-told buf n f h k known e =
-        let w : nextNumberIn ends ways links from to buf n ≡ answerNumber (nextOf rs (take n buf)) = next-numbered buf n ∙ next-room rs buf n h k in
-        as-told (nextNumberIn ends ways links from to buf n) (nextRoute rs buf n) buf (handedOver f buf)
+        let w : nextRefusalIn ends ways links from to buf n ≡ answerNumber (nextOf rs (take n buf)) = next-numbered buf n ∙ next-room rs buf n h k in
+        as-told (nextRefusalIn ends ways links from to buf n) (nextRoute rs buf n) buf (handedOver f buf)
         (ap (λ (g : Found). handedOver g buf) e ∙ found-told (nextOf rs (take n buf)) buf known ∙ ap (λ (j : ℕ). told j (nextRoute rs buf n) buf) (sym w))

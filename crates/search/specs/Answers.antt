@@ -44,12 +44,12 @@ told number r buf =
     (record { answer = Refused number; bytes = buf })
 
 -- 42: the buffer is shorter than the longest route
-unfoldable pub firstNumber : List (List ℕ) → List ℕ → ℕ
-firstNumber rs buf = refuse 42 (ltb (length buf) longestRoute) (answerNumber (firstOf rs))
+unfoldable pub firstRefusal : List (List ℕ) → List ℕ → ℕ
+firstRefusal rs buf = refuse 42 (ltb (length buf) longestRoute) (answerNumber (firstOf rs))
 
 -- 42, then 41 also for a length above the longest route's
-unfoldable pub nextNumber : List (List ℕ) → List ℕ → ℕ → ℕ
-nextNumber rs buf n =
+unfoldable pub nextRefusal : List (List ℕ) → List ℕ → ℕ → ℕ
+nextRefusal rs buf n =
     refuse 42 (ltb (length buf) longestRoute) (refuse 41 (ltb longestRoute n) (answerNumber (nextOf rs (take n buf))))
 
 -- the first of these routes, and the one after the first n bytes of the buffer
@@ -68,14 +68,14 @@ module _ (ends : List (List ℕ)) (ways : List ℕ) (links from to : ℕ) where
   unfoldable pub routesIn : List (List ℕ)
   routesIn = allRoutes (net ends ways links to) from
 
-  unfoldable pub firstNumberIn : List ℕ → ℕ
-  firstNumberIn buf = orElse (placesNumber links from) (firstNumber routesIn buf)
+  unfoldable pub firstRefusalIn : List ℕ → ℕ
+  firstRefusalIn buf = orElse (placesNumber links from) (firstRefusal routesIn buf)
 
-  unfoldable pub nextNumberIn : List ℕ → ℕ → ℕ
-  nextNumberIn buf n = orElse (placesNumber links from) (nextNumber routesIn buf n)
+  unfoldable pub nextRefusalIn : List ℕ → ℕ → ℕ
+  nextRefusalIn buf n = orElse (placesNumber links from) (nextRefusal routesIn buf n)
 
   unfoldable pub firstIn : List ℕ → Told
-  firstIn buf = told (firstNumberIn buf) (firstRoute routesIn) buf
+  firstIn buf = told (firstRefusalIn buf) (firstRoute routesIn) buf
 
   unfoldable pub nextIn : List ℕ → ℕ → Told
-  nextIn buf n = told (nextNumberIn buf n) (nextRoute routesIn buf n) buf
+  nextIn buf n = told (nextRefusalIn buf n) (nextRoute routesIn buf n) buf

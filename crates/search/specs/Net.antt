@@ -21,14 +21,14 @@ abbrev pub longestRoute : ℕ
 longestRoute = 15
 
 -- the node at a place, if it is a node's place
-unfoldable pub nodeAt : ℕ → Far
-nodeAt n = cond (ltb n mostNodes) (Node n) None
+unfoldable pub nodePlace : ℕ → Far
+nodePlace n = cond (ltb n mostNodes) (Node n) None
 
 -- the other end of a link from the node n: the link is passed both ways (way 1), or not at all
 unfoldable pub otherOf : List ℕ → ℕ → ℕ → Far
 otherOf e way n =
     cond (eqb way 1)
-    (cond (eqb (getD e 0 0) n) (nodeAt (getD e 1 0)) (cond (eqb (getD e 1 0) n) (nodeAt (getD e 0 0)) None))
+    (cond (eqb (getD e 0 0) n) (nodePlace (getD e 1 0)) (cond (eqb (getD e 1 0) n) (nodePlace (getD e 0 0)) None))
     None
 
 -- the far end of link i from the node n, if there is such a link

@@ -4,12 +4,12 @@ use crate::MOST_NODES;
 use crate::Way;
 ghost use mathlib.Core.Path.{_≡_};
 ghost use Prim.Native.Nat.{_-_, _≤_};
-ghost use Rattle.search.specs.Net.{nodeAt, otherOf, farOf};
+ghost use Rattle.search.specs.Net.{nodePlace, otherOf, farOf};
 ghost use Rattle.search.specs.Steps.{openOf, wayFrom};
 
 // The node at a place, if it is a node's place.
-fn node_at(n: u8) -> Far
-    ensures { λ r. ⌜ r ≡ nodeAt n ⌝ }
+fn node_place(n: u8) -> Far
+    ensures { λ r. ⌜ r ≡ nodePlace n ⌝ }
 {
     if n < MOST_NODES {
         return Far::Node(n);
@@ -27,10 +27,10 @@ pub fn other_end(e: [u8; 2], way: u8, at: u8) -> Far
     let a = e[0];
     let b = e[1];
     if a == at {
-        return node_at(b);
+        return node_place(b);
     }
     if b == at {
-        return node_at(a);
+        return node_place(a);
     }
     Far::None
 }

@@ -10,7 +10,7 @@ ghost use lib.Seq.{sets};
 ghost use Rattle.lists.specs.Refusals.{unlessRefused};
 ghost use Rattle.search.specs.Net.{onlyMet};
 ghost use Rattle.search.specs.Steps.{handedOver};
-ghost use Rattle.search.specs.Answers.{tracedNumber, tracedLength, firstIn, nextIn, firstNumberIn, nextNumberIn, routesIn, firstRoute, nextRoute};
+ghost use Rattle.search.specs.Answers.{tracedNumber, tracedLength, firstIn, nextIn, firstRefusalIn, nextRefusalIn, routesIn, firstRoute, nextRoute};
 
 mod ends;
 mod given;
@@ -92,8 +92,8 @@ pub fn first_route(
 ) -> Traced
     ensures { λ t. ⌜ t ≡ firstIn ends ways links from to (now (buf .entry)) .answer ⌝ }
     ensures bytes { λ _. ⌜ now (buf .exit) ≡ firstIn ends ways links from to (now (buf .entry)) .bytes ⌝ }
-    ensures number { λ t. ⌜ tracedNumber t ≡ firstNumberIn ends ways links from to (now (buf .entry)) ⌝ }
-    ensures length { λ t. ⌜ tracedLength t ≡ unlessRefused (firstNumberIn ends ways links from to (now (buf .entry))) (length (firstRoute (routesIn ends ways links from to))) 0 ⌝ }
+    ensures number { λ t. ⌜ tracedNumber t ≡ firstRefusalIn ends ways links from to (now (buf .entry)) ⌝ }
+    ensures length { λ t. ⌜ tracedLength t ≡ unlessRefused (firstRefusalIn ends ways links from to (now (buf .entry))) (length (firstRoute (routesIn ends ways links from to))) 0 ⌝ }
 {
     if MOST_LINKS < links {
         return Traced::Refused(26);
@@ -121,8 +121,8 @@ pub fn next_route(
 ) -> Traced
     ensures { λ t. ⌜ t ≡ nextIn ends ways links from to (now (buf .entry)) given .answer ⌝ }
     ensures bytes { λ _. ⌜ now (buf .exit) ≡ nextIn ends ways links from to (now (buf .entry)) given .bytes ⌝ }
-    ensures number { λ t. ⌜ tracedNumber t ≡ nextNumberIn ends ways links from to (now (buf .entry)) given ⌝ }
-    ensures length { λ t. ⌜ tracedLength t ≡ unlessRefused (nextNumberIn ends ways links from to (now (buf .entry)) given) (length (nextRoute (routesIn ends ways links from to) (now (buf .entry)) given)) 0 ⌝ }
+    ensures number { λ t. ⌜ tracedNumber t ≡ nextRefusalIn ends ways links from to (now (buf .entry)) given ⌝ }
+    ensures length { λ t. ⌜ tracedLength t ≡ unlessRefused (nextRefusalIn ends ways links from to (now (buf .entry)) given) (length (nextRoute (routesIn ends ways links from to) (now (buf .entry)) given)) 0 ⌝ }
 {
     if MOST_LINKS < links {
         return Traced::Refused(26);

@@ -16,20 +16,20 @@ array-read-a c = search needs
 array-read-b : tie.Need-array-read-b
 array-read-b c = search needs
 
-node-at-requires : tie.Need-node-at-requires
-node-at-requires c κs = search needs
+node-place-requires : tie.Need-node-place-requires
+node-place-requires c κs = search needs
 
 returns-2 : tie.Need-returns-2
 unfolding otherOf
-returns-2 c = c .node-at .ensures ∙ simp (eq-eqb _ _ (c .before .before .if1 .left), eq-eqb _ _ (c .before .if2 .taken))
+returns-2 c = c .node-place .ensures ∙ simp (eq-eqb _ _ (c .before .before .if1 .left), eq-eqb _ _ (c .before .if2 .taken))
 
-node-at-requires-2 : tie.Need-node-at-requires-2
-node-at-requires-2 c κs = search needs
+node-place-requires-2 : tie.Need-node-place-requires-2
+node-place-requires-2 c κs = search needs
 
 returns-3 : tie.Need-returns-3
 unfolding otherOf
 returns-3 c =
-    c .node-at2 .ensures
+    c .node-place2 .ensures
     ∙ simp (eq-eqb _ _ (c .before .before .before .if1 .left), ne-eqb _ _ (c .before .before .if2 .left), eq-eqb _ _ (c .before .if3 .taken))
 
 returns-4 : tie.Need-returns-4
@@ -43,8 +43,8 @@ other-end-spec =
     returns
     array-read-a
     array-read-b
-    node-at-requires
+    node-place-requires
     returns-2
-    node-at-requires-2
+    node-place-requires-2
     returns-3
     returns-4)
