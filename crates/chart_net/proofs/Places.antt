@@ -12,7 +12,7 @@ use Rattle.address.specs.declared.Station.{Station}
 use Rattle.address.specs.Address.{sameStation}
 use Rattle.chart.specs.declared.Nodes.{Nodes}
 use Rattle.chart.specs.Values.{standsAt, written}
-use Rattle.chart_net.specs.Accepted.{stationAt}
+use Rattle.chart_write.specs.Numbers.{stationAt}
 use Rattle.chart_net.specs.Net.{placeIn}
 use Rattle.chart_net.specs.Arrays.{placeFor}
 

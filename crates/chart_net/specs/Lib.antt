@@ -1,3 +1,3 @@
-pub mod Accepted
 pub mod Net
 pub mod Arrays
+pub mod Promises

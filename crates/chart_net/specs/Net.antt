@@ -12,7 +12,7 @@ use Rattle.chart.specs.declared.Nodes.{Nodes}
 use Rattle.chart.specs.declared.Links.{Links}
 use Rattle.chart.specs.declared.Chart.{Chart}
 use Rattle.chart.specs.Values.{linkAt, standsAt}
-use Rattle.chart_net.specs.Accepted.{stationAt}
+use Rattle.chart_write.specs.Numbers.{stationAt}
 use Rattle.routes.specs.Route.{Net}
 use Rattle.routes.specs.All.{allRoutes}
 
