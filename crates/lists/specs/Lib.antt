@@ -3,3 +3,4 @@ pub mod Bytes
 pub mod Lists
 pub mod Refusals
 pub mod Writing
+pub mod Chains

@@ -1,0 +1,27 @@
+-- `chart_write::bytes::link_bytes` meets its contract: each byte is the one that the field has there.
+use Rattle.chart_write.specs.Writing.{tagged, linkBody, linkField}
+use borrow.Author.Needs.{needs}
+use Rattle.chart_write.proofs.bytes.link_bytes.Statement.{statement}
+use Rattle.chart_write.proofs.bytes.link_bytes.Tie as tie
+
+on-byte-requires : tie.Need-on-byte-requires
+on-byte-requires c κs = search needs
+
+cast-t6 : tie.Need-cast-t6
+cast-t6 c = search needs
+
+cast-t8 : tie.Need-cast-t8
+cast-t8 c = search needs
+
+cast-t10 : tie.Need-cast-t10
+cast-t10 c = search needs
+
+cast-t12 : tie.Need-cast-t12
+cast-t12 c = search needs
+
+returns : tie.Need-returns
+unfolding linkField tagged linkBody
+returns c = rw (c .on-byte .ensures)
+
+pub link-bytes-spec : {M : Type 1} → statement M
+link-bytes-spec = tie.close (tie.spec on-byte-requires cast-t6 cast-t8 cast-t10 cast-t12 returns)

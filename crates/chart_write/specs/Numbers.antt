@@ -1,0 +1,65 @@
+-- The number of a chart given as values (document 01, "The chart"): the counts first, then the number of the first bad value. 0 where it is accepted.
+use Prim.Native.Nat.{ℕ, _≤_, _<_}
+use mathlib.Core.Path.{_≡_}
+use mathlib.Core.Bool.{true, false}
+use lib.Dec.{ltb}
+use Rattle.lists.specs.Places.{repeats}
+use Rattle.lists.specs.Refusals.{refuse, orElse}
+use Rattle.lists.specs.Chains.{firstNumber}
+use Rattle.address.specs.declared.Station.{Station}
+use Rattle.address.specs.Address.{stationOf, sameStation}
+use Rattle.chart.specs.declared.Nodes.{Nodes}
+use Rattle.chart.specs.declared.Links.{Links}
+use Rattle.chart.specs.declared.Chart.{Chart}
+use Rattle.chart.specs.Values.{mostNodes, mostLinks, nodeAt, linkAt, written}
+use Rattle.chart.specs.Numbers.{nodeNumber, linkNumber, questionNumber}
+
+-- the nodes before a place, and the links before one
+abbrev pub nodesBefore : Nodes → ℕ → Nodes
+nodesBefore ns i = record { count = i; items = ns .items }
+
+abbrev pub linksBefore : Links → ℕ → Links
+linksBefore ls i = record { count = i; items = ls .items }
+
+-- the number of the node at a place, after those before it
+unfoldable pub nodeNumberAt : Nodes → ℕ → ℕ
+nodeNumberAt ns i = nodeNumber false (nodesBefore ns i) (nodeAt ns i)
+
+-- the number of the link at a place, after all nodes and the links before it
+unfoldable pub linkNumberAt : Nodes → Links → ℕ → ℕ
+linkNumberAt ns ls i = linkNumber false ns (linksBefore ls i) (linkAt ls i)
+
+-- the first bad value decides: nodes, then links, then the question
+unfoldable pub valuesNumber : Chart → ℕ
+valuesNumber c =
+    orElse (firstNumber (nodeNumberAt (c .nodes)) (c .nodes .count))
+    (orElse (firstNumber (linkNumberAt (c .nodes) (c .links)) (c .links .count))
+    (questionNumber false (c .nodes) (c .from) (c .to)))
+
+-- the counts first
+unfoldable pub chartNumber : Chart → ℕ
+chartNumber c =
+    refuse 26 (ltb mostNodes (c .nodes .count))
+    (refuse 26 (ltb mostLinks (c .links .count))
+    (valuesNumber c))
+
+-- ---- what an accepted chart is
+
+-- the station of the node at a place
+unfoldable pub stationAt : Nodes → ℕ → Station
+stationAt ns i = nodeAt ns i .station
+
+-- both ends of a link stand at nodes of the chart, and at two different ones
+pub record Joins (ns : Nodes) (ls : Links) (i : ℕ) : Type 0 where
+  pub a : written ns (stationOf (linkAt ls i .a)) ≡ true
+  pub b : written ns (stationOf (linkAt ls i .b)) ≡ true
+  pub apart : sameStation (stationOf (linkAt ls i .a)) (stationOf (linkAt ls i .b)) ≡ false
+
+-- few enough, no node twice, each end and both stations of the question written
+pub record Accepted (c : Chart) : Type 0 where
+  pub few-nodes : c .nodes .count ≤ mostNodes
+  pub few-links : c .links .count ≤ mostLinks
+  pub once : repeats sameStation (stationAt (c .nodes)) (c .nodes .count) ≡ false
+  pub joins : (i : ℕ) → i < c .links .count → Joins (c .nodes) (c .links) i
+  pub from : written (c .nodes) (c .from) ≡ true
+  pub to : written (c .nodes) (c .to) ≡ true

@@ -1,0 +1,85 @@
+-- The chart's writer (document 01, "The chart"): the bytes of a chart given as values, and what becomes of the buffer that is lent.
+use Prim.Native.Nat.{ℕ}
+use mathlib.Core.List.{List, [], _∷_, _++_}
+use mathlib.Core.Bool.{Bool, cond}
+use lib.ListN.{length, drop}
+use lib.Dec.{ltb}
+use Rattle.lists.specs.Bytes.{wordBytes}
+use Rattle.lists.specs.Places.{elementAt, firsts, row, joined}
+use Rattle.lists.specs.Refusals.{refuse, orElse, unlessRefused}
+use Rattle.lists.specs.declared.Written.{Written}
+use Rattle.lists.specs.Writing.{wroteUnless}
+use Rattle.address.specs.declared.Station.{Station}
+use Rattle.address.specs.Wide.{stationBytes, addressBytes}
+use Rattle.chart.specs.declared.ChartNode.{ChartNode}
+use Rattle.chart.specs.declared.Link.{Link}
+use Rattle.chart.specs.declared.Nodes.{Nodes}
+use Rattle.chart.specs.declared.Chart.{Chart}
+use Rattle.chart.specs.Values.{mostNodes, mostLinks, longestLabel, noNode, noLink, nodeAt, linkAt}
+use Rattle.chart_read.specs.Fields.{nodeTag, linkTag, questionTag}
+use Rattle.chart_write.specs.Numbers.{chartNumber}
+
+-- a tagged field: the tag, the length of its body in two bytes, the body
+unfoldable pub tagged : ℕ → List ℕ → List ℕ
+tagged tag body = tag ∷ wordBytes (length body) ++ body
+
+-- the bodies
+unfoldable pub nodeBody : ChartNode → List ℕ
+nodeBody n = stationBytes (n .station) ++ firsts (elementAt 0 (n .label)) (n .length)
+
+abbrev pub onByte : Bool → ℕ
+onByte on = cond on 1 0
+
+unfoldable pub linkBody : Link → List ℕ
+linkBody l = addressBytes (l .a) ++ addressBytes (l .b) ++ (onByte (l .on) ∷ [])
+
+unfoldable pub questionBody : Station → Station → List ℕ
+questionBody from to = stationBytes from ++ stationBytes to
+
+-- the fields
+unfoldable pub nodeField : ChartNode → List ℕ
+nodeField n = tagged nodeTag (nodeBody n)
+
+unfoldable pub linkField : Link → List ℕ
+linkField l = tagged linkTag (linkBody l)
+
+unfoldable pub questionField : Station → Station → List ℕ
+questionField from to = tagged questionTag (questionBody from to)
+
+-- a chart's bytes: its nodes, then its links, then the question
+unfoldable pub chartBytes : Chart → List ℕ
+chartBytes c =
+    joined nodeField (nodeAt (c .nodes)) (c .nodes .count)
+    ++ (joined linkField (linkAt (c .links)) (c .links .count)
+    ++ questionField (c .from) (c .to))
+
+-- the writer's number: the chart's own, then 10
+unfoldable pub chartRefusal : Chart → ℕ → ℕ
+chartRefusal c room = orElse (chartNumber c) (refuse 10 (ltb room (length (chartBytes c))) 0)
+
+-- the number of bytes written, or the refusal
+unfoldable pub chartWriteOf : Chart → ℕ → Written
+chartWriteOf c room = wroteUnless (chartRefusal c room) (length (chartBytes c))
+
+-- what the buffer then holds: the chart's bytes, and what stood after them; on a refusal what it held
+unfoldable pub chartAfter : Chart → List ℕ → List ℕ
+chartAfter c out = unlessRefused (chartRefusal c (length out)) (chartBytes c ++ drop (length (chartBytes c)) out) out
+
+-- ---- what a writer does not look at, at zero
+
+-- the label's bytes past its length
+unfoldable pub tidyNode : ChartNode → ChartNode
+tidyNode n = record { station = n .station; length = n .length; label = row longestLabel 0 (elementAt 0 (n .label)) (n .length) }
+
+unfoldable pub tidyAt : Nodes → ℕ → ChartNode
+tidyAt ns i = tidyNode (nodeAt ns i)
+
+-- and the places past the counts
+unfoldable pub tidy : Chart → Chart
+tidy c =
+    record {
+      nodes = record { count = c .nodes .count; items = row mostNodes noNode (tidyAt (c .nodes)) (c .nodes .count) };
+      links = record { count = c .links .count; items = row mostLinks noLink (linkAt (c .links)) (c .links .count) };
+      from = c .from;
+      to = c .to;
+    }

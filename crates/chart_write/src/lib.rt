@@ -1,0 +1,36 @@
+// The chart's writer (document 01, "The chart"): a chart given as values is refused by number, or its bytes are put into a lent buffer.
+use chart::Chart;
+use lists::Written;
+use numbers::chart_number as number_of;
+use storing::chart_size;
+use storing::put_chart;
+ghost use mathlib.Core.Path.{_≡_};
+ghost use lib.ListN.{length};
+ghost use Rattle.lists.specs.Refusals.{unlessRefused};
+ghost use Rattle.lists.specs.Writing.{writeNumber, writeCount};
+ghost use Rattle.chart_write.specs.Writing.{chartBytes, chartRefusal, chartWriteOf, chartAfter};
+
+mod bytes;
+mod numbers;
+mod storing;
+
+pub use numbers::chart_number;
+
+// Writes a chart into out, and gives the number of bytes written, or the refusal. What is unused is not looked at.
+pub fn write_chart(c: Chart, out: &mut [u8]) -> Written
+    ensures { λ r. ⌜ r ≡ chartWriteOf c (length (now (out .entry))) ⌝ }
+    ensures number { λ r. ⌜ writeNumber r ≡ chartRefusal c (length (now (out .entry))) ⌝ }
+    ensures count { λ r. ⌜ writeCount r ≡ unlessRefused (chartRefusal c (length (now (out .entry)))) (length (chartBytes c)) 0 ⌝ }
+    ensures buffer { λ _. ⌜ now (out .exit) ≡ chartAfter c (now (out .entry)) ⌝ }
+{
+    let k = number_of(c);
+    if k != 0 {
+        return Written::Refused(k);
+    }
+    let size = chart_size(c);
+    if out.len() < size {
+        return Written::Refused(10);
+    }
+    put_chart(c, out);
+    Written::Wrote(size)
+}

@@ -1,0 +1,49 @@
+-- Runs of things of any length, joined: one more stored, and what stands at its place.
+use Prim.Native.Nat.{ℕ, zero, suc, _+_, _*_, _-_, _<_, _≤_}
+use mathlib.Core.Path.{_≡_, refl, sym, ap, _∙_}
+use mathlib.Core.List.{List, [], _∷_, _++_, append-assoc, append-nil}
+use native.Mathlib.Omega.{arith}
+use native.Mathlib.Numerals.{add-one}
+use native.Mathlib.Nat.{add-zero, add-suc, mul-suc, mul-zero}
+use lib.ListN.{length, getD, take, length-append}
+use lib.Seq.{sets, take-suc}
+use Rattle.lists.specs.Places.{elementAt, firsts, joined}
+use Rattle.lists.proofs.Places.{joined-next}
+use Rattle.lists.proofs.Stores.{sets-append}
+
+-- the first n elements of a list
+pub firsts-take : {A : Type 0} (z : A) (l : List A) (n : ℕ) → n ≤ length l → take n l ≡ firsts (elementAt z l) n
+unfolding firsts elementAt
+firsts-take z l zero h = refl
+firsts-take z l (suc n) h = take-suc l n z h ∙ ap (λ (t : List _). t ++ (getD l n z ∷ [])) (firsts-take z l n (omega arith))
+
+module _ {A : Type 0} (f : A → List ℕ) (d : ℕ → A) where
+  pub length-joined-next : (i : ℕ) → length (joined f d (i + 1)) ≡ length (joined f d i) + length (f (d i))
+  length-joined-next i = rw (joined-next f d i) (length-append (joined f d i) (f (d i)))
+
+  pub joined-put : (l : List ℕ) (at k : ℕ) (i : ℕ) → k ≡ at + length (joined f d i) → sets (sets l at (joined f d i)) k (f (d i)) ≡ sets l at (joined f d (i + 1))
+  joined-put l at k i e = rw (joined-next f d i) (sets-append (joined f d i) l at (f (d i)) k e)
+
+  -- what stands after the first i of them: the next, and then some rest
+  pub joined-rest : (i k : ℕ) → (rest : List ℕ) × (joined f d (i + k) ≡ joined f d i ++ rest)
+  unfolding joined
+  joined-rest i zero = ([], rw add-zero (sym (append-nil (joined f d i))))
+  joined-rest i (suc k) =
+      let r = joined-rest i k in
+      (r .0 ++ f (d (i + k)), rw (add-suc, r .1) (append-assoc (joined f d i) (r .0) (f (d (i + k)))))
+
+  pub joined-at-place : (n i : ℕ) → i < n → (rest : List ℕ) × (joined f d n ≡ joined f d i ++ (f (d i) ++ rest))
+  joined-at-place n i h =
+      let r = joined-rest (i + 1) (n - (i + 1)) in
+      let e : n ≡ i + 1 + (n - (i + 1)) = omega arith in
+      (r .0, ap (joined f d) e ∙ r .1 ∙ ap (λ (x : List ℕ). x ++ r .0) (joined-next f d i) ∙ append-assoc (joined f d i) (f (d i)) (r .0))
+
+  -- each at most w long
+  pub joined-most : (w : ℕ) (n : ℕ) → ((i : ℕ) → i < n → length (f (d i)) ≤ w) → length (joined f d n) ≤ w * n
+  joined-most w zero h = unfold joined in (omega arith)
+  joined-most w (suc n) h =
+      let e : length (joined f d (n + 1)) ≡ length (joined f d n) + length (f (d n)) = length-joined-next n in
+      let p : length (joined f d n) ≤ w * n = joined-most w n (λ i l. h i (omega arith)) in
+      let q : length (f (d n)) ≤ w = h n (omega arith) in
+      let s : w * suc n ≡ w * n + w = mul-suc w n in
+      rw (s, ← add-one n, e) (omega arith)
