@@ -5,15 +5,15 @@ use mathlib.Core.Bool.{true, false}
 use native.Mathlib.Omega.{arith}
 use borrow.Author.Tests.{eqb-true, eq-eqb, lt-ltb, le-ltb}
 use lib.Dec.{eqb}
-use Rattle.lists.specs.Places.{anyBelow, firstBelow, sameAt, repeatAt, repeats}
+use Rattle.lists.specs.Places.{anyBelow, firstBelow}
 use Rattle.lists.proofs.Bools.{and-left, and-right, both-same}
-use Rattle.lists.proofs.Places.{any-false, any-agree, first-stop, first-found, first-none, first-below}
+use Rattle.lists.proofs.Places.{first-stop, first-found, first-none, first-below}
 use Rattle.address.specs.declared.Station.{Station}
 use Rattle.address.specs.Address.{sameStation}
 use Rattle.chart.specs.declared.Nodes.{Nodes}
-use Rattle.chart.specs.Values.{standsAt, written}
-use Rattle.chart_write.specs.Numbers.{stationAt}
-use Rattle.chart_net.specs.Net.{placeIn}
+use Rattle.chart.specs.Values.{nodeAt, standsAt, written}
+use Rattle.chart_write.specs.Numbers.{nodesBefore}
+use Rattle.chart_net.specs.Net.{stationAt, placeIn}
 use Rattle.chart_net.specs.Arrays.{placeFor}
 
 -- ---- stations that are the same are one
@@ -63,14 +63,11 @@ module _ (ns : Nodes) (s : Station) where
   unfolding placeFor
   place-many h = rw (lt-ltb 16 (ns .count) h)
 
-module _ (ns : Nodes) (once : repeats sameStation (stationAt ns) (ns .count) ≡ false) where
+module _ (ns : Nodes) (once : (i : ℕ) → i < ns .count → written (nodesBefore ns i) (nodeAt ns i .station) ≡ false) where
   -- each node has its own place
   own-place : (a : ℕ) → a < ns .count → placeIn ns (stationAt ns a) ≡ a
-  unfolding repeats repeatAt sameAt standsAt stationAt
-  own-place a h =
-      let n : anyBelow (sameAt sameStation (stationAt ns) a) a ≡ false = any-false (repeatAt sameStation (stationAt ns)) (ns .count) a once h in
-      let m = any-agree (standsAt ns (stationAt ns a)) (sameAt sameStation (stationAt ns) a) a (λ j l. station-sym (stationAt ns j) (stationAt ns a)) ∙ n in
-      sym (place-here ns (stationAt ns a) a h m (station-refl (stationAt ns a)))
+  unfolding written standsAt nodeAt stationAt
+  own-place a h = sym (place-here ns (stationAt ns a) a h (once a h) (station-refl (stationAt ns a)))
 
   -- the node at a station's place stands there
   stands-there : (s : Station) (k : ℕ) → placeIn ns s ≡ k → k < ns .count → sameStation (stationAt ns k) s ≡ true

@@ -12,10 +12,9 @@ use Rattle.chart.specs.declared.Link.{Link}
 use Rattle.chart.specs.declared.Nodes.{Nodes}
 use Rattle.chart.specs.declared.Links.{Links}
 use Rattle.chart.specs.Values.{linkAt, standsAt}
-use Rattle.chart_write.specs.Numbers.{stationAt}
 use Rattle.routes.specs.All.{allRoutes}
 use Rattle.routes.proofs.Promises.{off-links, twin-links}
-use Rattle.chart_net.specs.Net.{placeIn, crossed, across, placed, farIn, chartNet, start, routesOf}
+use Rattle.chart_net.specs.Net.{stationAt, placeIn, crossed, across, placed, farIn, chartNet, start, routesOf}
 use Rattle.chart_net.specs.Promises.{RoutesKept, AcceptedWhole, ByStation, OffLink, TwinLink}
 use Rattle.chart_net.proofs.Kept as kept
 

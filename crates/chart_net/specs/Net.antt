@@ -11,10 +11,13 @@ use Rattle.chart.specs.declared.Link.{Link}
 use Rattle.chart.specs.declared.Nodes.{Nodes}
 use Rattle.chart.specs.declared.Links.{Links}
 use Rattle.chart.specs.declared.Chart.{Chart}
-use Rattle.chart.specs.Values.{linkAt, standsAt}
-use Rattle.chart_write.specs.Numbers.{stationAt}
+use Rattle.chart.specs.Values.{nodeAt, linkAt, standsAt}
 use Rattle.routes.specs.Route.{Net}
 use Rattle.routes.specs.All.{allRoutes}
+
+-- the station of the node at a place
+unfoldable pub stationAt : Nodes → ℕ → Station
+stationAt ns a = nodeAt ns a .station
 
 -- the place of the node at this station: its brigade and node number are compared, its label is not looked at
 unfoldable pub placeIn : Nodes → Station → ℕ

@@ -6,10 +6,10 @@ use mathlib.Core.List.{List, _∷_, _++_, List·Memᴰ}
 use Rattle.address.specs.Address.{stationOf}
 use Rattle.chart.specs.declared.Chart.{Chart}
 use Rattle.chart.specs.Values.{linkAt}
-use Rattle.chart_write.specs.Numbers.{stationAt, Accepted}
+use Rattle.chart_write.specs.Numbers.{Accepted}
 use Rattle.routes.specs.Route.{Sound, RouteFrom}
 use Rattle.routes.specs.Promises.{TwoRoutes}
-use Rattle.chart_net.specs.Net.{chartNet, start, routesOf}
+use Rattle.chart_net.specs.Net.{stationAt, chartNet, start, routesOf}
 use Rattle.chart_net.specs.Arrays.{routesKept}
 
 -- the arrays that the trace keeps of an accepted chart have the chart's routes
