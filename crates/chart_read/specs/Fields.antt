@@ -1,10 +1,10 @@
 -- Tagged fields (document 01, "The chart"): a one-byte tag, a two-byte length, then the body; and what a body of each tag says.
 use Prim.Native.Nat.{ℕ, _+_, _-_}
-use mathlib.Core.List.{List}
+use mathlib.Core.List.{List, _∷_, _++_}
 use mathlib.Core.Bool.{Bool}
 use lib.ListN.{length, getD, take, drop}
 use lib.Dec.{ltb, eqb}
-use Rattle.lists.specs.Bytes.{wordAt}
+use Rattle.lists.specs.Bytes.{wordAt, wordBytes}
 use Rattle.lists.specs.Places.{row}
 use Rattle.address.specs.Wide.{stationIn, addressIn}
 use Rattle.chart.specs.declared.ChartNode.{ChartNode}
@@ -33,6 +33,10 @@ linkLength = 9
 
 abbrev pub questionLength : ℕ
 questionLength = 6
+
+-- a field as bytes: its tag, the length of its body in two bytes, its body
+unfoldable pub tagged : ℕ → List ℕ → List ℕ
+tagged tag body = tag ∷ wordBytes (length body) ++ body
 
 -- the field that begins at a place: its tag, its body, and the place past it
 abbrev pub tagAt : List ℕ → ℕ → ℕ

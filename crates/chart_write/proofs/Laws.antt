@@ -33,7 +33,8 @@ use Rattle.chart.specs.Values.{nodeAt, linkAt, standsAt, written}
 use Rattle.chart.specs.Numbers.{bothWritten, nodeNumber, linkNumber, questionNumber}
 use Rattle.chart.proofs.Laws.{node-read, link-read, NodePassed, node-passed, LinkPassed, link-passed, QuestionPassed, question-passed}
 use Rattle.chart_write.specs.Numbers.{nodesBefore, linksBefore, nodeNumberAt, linkNumberAt, valuesNumber, chartNumber}
-use Rattle.chart_write.specs.Writing.{tagged, nodeBody, linkBody, questionBody, nodeField, linkField, questionField, chartBytes, chartRefusal, chartWriteOf, chartAfter}
+use Rattle.chart_read.specs.Fields.{tagged}
+use Rattle.chart_write.specs.Writing.{nodeBody, linkBody, questionBody, nodeField, linkField, questionField, chartBytes, chartRefusal, chartWriteOf, chartAfter}
 use Rattle.chart_write.specs.Storing.{nodeHead, Short}
 
 -- ---- how long the fields are

@@ -3,10 +3,8 @@ use Prim.Native.Nat.{ℕ, _≤_, _<_}
 use mathlib.Core.Path.{_≡_}
 use mathlib.Core.Bool.{true, false}
 use lib.Dec.{ltb}
-use Rattle.lists.specs.Places.{repeats}
 use Rattle.lists.specs.Refusals.{refuse, orElse}
 use Rattle.lists.specs.Chains.{firstNumber}
-use Rattle.address.specs.declared.Station.{Station}
 use Rattle.address.specs.Address.{stationOf, sameStation}
 use Rattle.chart.specs.declared.Nodes.{Nodes}
 use Rattle.chart.specs.declared.Links.{Links}
@@ -45,21 +43,17 @@ chartNumber c =
 
 -- ---- what an accepted chart is
 
--- the station of the node at a place
-unfoldable pub stationAt : Nodes → ℕ → Station
-stationAt ns i = nodeAt ns i .station
-
 -- both ends of a link stand at nodes of the chart, and at two different ones
 pub record Joins (ns : Nodes) (ls : Links) (i : ℕ) : Type 0 where
   pub a : written ns (stationOf (linkAt ls i .a)) ≡ true
   pub b : written ns (stationOf (linkAt ls i .b)) ≡ true
   pub apart : sameStation (stationOf (linkAt ls i .a)) (stationOf (linkAt ls i .b)) ≡ false
 
--- few enough, no node twice, each end and both stations of the question written
+-- few enough, no node at the station of one before it, each end and both stations of the question written
 pub record Accepted (c : Chart) : Type 0 where
   pub few-nodes : c .nodes .count ≤ mostNodes
   pub few-links : c .links .count ≤ mostLinks
-  pub once : repeats sameStation (stationAt (c .nodes)) (c .nodes .count) ≡ false
+  pub once : (i : ℕ) → i < c .nodes .count → written (nodesBefore (c .nodes) i) (nodeAt (c .nodes) i .station) ≡ false
   pub joins : (i : ℕ) → i < c .links .count → Joins (c .nodes) (c .links) i
   pub from : written (c .nodes) (c .from) ≡ true
   pub to : written (c .nodes) (c .to) ≡ true

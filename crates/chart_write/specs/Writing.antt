@@ -4,7 +4,6 @@ use mathlib.Core.List.{List, [], _∷_, _++_}
 use mathlib.Core.Bool.{Bool, cond}
 use lib.ListN.{length, drop}
 use lib.Dec.{ltb}
-use Rattle.lists.specs.Bytes.{wordBytes}
 use Rattle.lists.specs.Places.{elementAt, firsts, row, joined}
 use Rattle.lists.specs.Refusals.{refuse, orElse, unlessRefused}
 use Rattle.lists.specs.declared.Written.{Written}
@@ -16,12 +15,8 @@ use Rattle.chart.specs.declared.Link.{Link}
 use Rattle.chart.specs.declared.Nodes.{Nodes}
 use Rattle.chart.specs.declared.Chart.{Chart}
 use Rattle.chart.specs.Values.{mostNodes, mostLinks, longestLabel, noNode, noLink, nodeAt, linkAt}
-use Rattle.chart_read.specs.Fields.{nodeTag, linkTag, questionTag}
+use Rattle.chart_read.specs.Fields.{nodeTag, linkTag, questionTag, tagged}
 use Rattle.chart_write.specs.Numbers.{chartNumber}
-
--- a tagged field: the tag, the length of its body in two bytes, the body
-unfoldable pub tagged : ℕ → List ℕ → List ℕ
-tagged tag body = tag ∷ wordBytes (length body) ++ body
 
 -- the bodies
 unfoldable pub nodeBody : ChartNode → List ℕ

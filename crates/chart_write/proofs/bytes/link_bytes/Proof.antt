@@ -1,5 +1,6 @@
 -- `chart_write::bytes::link_bytes` meets its contract: each byte is the one that the field has there.
-use Rattle.chart_write.specs.Writing.{tagged, linkBody, linkField}
+use Rattle.chart_read.specs.Fields.{tagged}
+use Rattle.chart_write.specs.Writing.{linkBody, linkField}
 use borrow.Author.Needs.{needs}
 use Rattle.chart_write.proofs.bytes.link_bytes.Statement.{statement}
 use Rattle.chart_write.proofs.bytes.link_bytes.Tie as tie

@@ -1,6 +1,7 @@
 -- `chart_write::bytes::question_bytes` meets its contract: each byte is the one that the field has there.
 use mathlib.Core.Path.{refl}
-use Rattle.chart_write.specs.Writing.{tagged, questionBody, questionField}
+use Rattle.chart_read.specs.Fields.{tagged}
+use Rattle.chart_write.specs.Writing.{questionBody, questionField}
 use borrow.Author.Needs.{needs}
 use Rattle.chart_write.proofs.bytes.question_bytes.Statement.{statement}
 use Rattle.chart_write.proofs.bytes.question_bytes.Tie as tie

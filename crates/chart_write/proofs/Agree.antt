@@ -1,0 +1,88 @@
+-- Numbers go by stations, ends and ranges alone: two charts that agree on these have the same numbers. A label's own bytes count only for its range.
+use Prim.Native.Nat.{ℕ, _<_}
+use mathlib.Core.Path.{_≡_, refl, sym, ap, ap₂, _∙_}
+use mathlib.Core.Bool.{Bool, true, false, not, _&&_, _||_}
+use lib.Dec.{ltb, leb}
+use Rattle.lists.specs.Places.{anyBelow, elementAt, row}
+use Rattle.lists.specs.Refusals.{refuse}
+use Rattle.lists.proofs.Places.{any-agree, row-at}
+use Rattle.address.specs.declared.Station.{Station}
+use Rattle.address.specs.declared.Address.{Address}
+use Rattle.address.specs.Address.{stationOf, stationInRange, sameStation}
+use Rattle.chart.specs.declared.ChartNode.{ChartNode}
+use Rattle.chart.specs.declared.Link.{Link}
+use Rattle.chart.specs.declared.Nodes.{Nodes}
+use Rattle.chart.specs.declared.Links.{Links}
+use Rattle.chart.specs.Values.{nodeAt, linkAt, strayByte, nodeInRange, linkInRange, standsAt, written, isEnd, endsAt, used}
+use Rattle.chart.specs.Numbers.{bothWritten, eitherUsed, nodeNumber, linkNumber, questionNumber}
+use Rattle.chart_write.specs.Writing.{tidyNode}
+
+-- the same stations at the places below the same count
+pub record SameNodes (ns ms : Nodes) : Type 0 where
+  pub count : ns .count ≡ ms .count
+  pub stations : (i : ℕ) → i < ns .count → nodeAt ns i .station ≡ nodeAt ms i .station
+
+pub record SameLinks (ls ks : Links) : Type 0 where
+  pub count : ls .count ≡ ks .count
+  pub links : (i : ℕ) → i < ls .count → linkAt ls i ≡ linkAt ks i
+
+module _ (ns ms : Nodes) (e : SameNodes ns ms) where
+  pub written-agree : (s : Station) → written ns s ≡ written ms s
+  unfolding written standsAt
+  written-agree s =
+      any-agree (standsAt ns s) (standsAt ms s) (ns .count) (λ i h. ap (λ (t : Station). sameStation t s) (e .stations i h))
+      ∙ ap (anyBelow (standsAt ms s)) (e .count)
+
+  pub both-agree : (s t : Station) → bothWritten ns s t ≡ bothWritten ms s t
+  unfolding bothWritten
+  both-agree s t = ap₂ (λ (x y : Bool). x && y) (written-agree s) (written-agree t)
+
+  pub node-agree : (late : Bool) (n : ChartNode) → nodeNumber late ns n ≡ nodeNumber late ms n
+  unfolding nodeNumber
+  node-agree late n =
+      ap₂ (λ (k : ℕ) (w : Bool). refuse 23 (ltb 24 (n .length)) (refuse 24 (not (nodeInRange n)) (refuse 25 late (refuse 26 (leb 16 k) (refuse 27 w 0)))))
+      (e .count) (written-agree (n .station))
+
+  pub question-agree : (late : Bool) (from to : Station) → questionNumber late ns from to ≡ questionNumber late ms from to
+  unfolding questionNumber
+  question-agree late from to =
+      ap₂ (λ (k : ℕ) (w : Bool). refuse 24 (not (stationInRange from && stationInRange to)) (refuse 25 late (refuse 26 (ltb 16 k) (refuse 28 (not w) 0))))
+      (e .count) (both-agree from to)
+
+  module _ (ls ks : Links) (f : SameLinks ls ks) where
+    used-agree : (a : Address) → used ls a ≡ used ks a
+    unfolding used endsAt
+    used-agree a =
+        any-agree (endsAt ls a) (endsAt ks a) (ls .count) (λ i h. ap (isEnd a) (f .links i h))
+        ∙ ap (anyBelow (endsAt ks a)) (f .count)
+
+    either-agree : (l : Link) → eitherUsed ls l ≡ eitherUsed ks l
+    unfolding eitherUsed
+    either-agree l = ap₂ (λ (x y : Bool). x || y) (used-agree (l .a)) (used-agree (l .b))
+
+    pub link-agree : (late : Bool) (l : Link) → linkNumber late ns ls l ≡ linkNumber late ms ks l
+    unfolding linkNumber
+    link-agree late l = λ i.
+      refuse 24 (not (linkInRange l)) (refuse 25 late (refuse 26 (ltb 16 (e .count i)) (refuse 26 (leb 48 (f .count i))
+      (refuse 28 (not (both-agree (stationOf (l .a)) (stationOf (l .b)) i)) (refuse 29 (sameStation (stationOf (l .a)) (stationOf (l .b))) (refuse 30 (either-agree l i) 0))))))
+
+-- a node's own number goes by its station, its label's length and whether the label is in range
+pub node-like : (late : Bool) (ns : Nodes) (n m : ChartNode) → n .station ≡ m .station → ltb 24 (n .length) ≡ ltb 24 (m .length)
+    → nodeInRange n ≡ nodeInRange m → nodeNumber late ns n ≡ nodeNumber late ns m
+unfolding nodeNumber
+node-like late ns n m p q r = rw (q, r, p)
+
+-- what stands past a label's length does not count
+tidy-stray : (n : ChartNode) (i : ℕ) → i < n .length → strayByte (row 24 0 (elementAt 0 (n .label)) (n .length)) i ≡ strayByte (n .label) i
+unfolding strayByte elementAt
+tidy-stray n i h = ap (λ (x : ℕ). ltb x 32 || ltb 126 x) (sym (row-at 24 0 (elementAt 0 (n .label)) (n .length) i h))
+
+pub tidy-in-range : (n : ChartNode) → nodeInRange (tidyNode n) ≡ nodeInRange n
+unfolding nodeInRange tidyNode
+tidy-in-range n =
+    ap (λ (b : Bool). stationInRange (n .station) && not b)
+    (any-agree (strayByte (row 24 0 (elementAt 0 (n .label)) (n .length))) (strayByte (n .label)) (n .length) (tidy-stray n))
+
+pub tidy-number : (late : Bool) (ns : Nodes) (n : ChartNode) → nodeNumber late ns (tidyNode n) ≡ nodeNumber late ns n
+unfolding tidyNode
+tidy-number late ns n = node-like late ns (tidyNode n) n refl refl (tidy-in-range n)

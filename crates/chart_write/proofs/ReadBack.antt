@@ -1,0 +1,183 @@
+-- Reading undoes writing: the fields of a chart are read one after the other, and what is then held is the chart's first nodes and links.
+use Prim.Native.Nat.{ℕ, zero, suc, _+_, _-_, _*_, _<_, _≤_}
+use mathlib.Core.Path.{_≡_, refl, sym, ap, ap₂, subst, _∙_}
+use mathlib.Core.List.{List, [], _∷_, _++_, append-assoc, append-nil}
+use mathlib.Core.Bool.{Bool, true, false, not, cond, _||_}
+use native.Mathlib.Nat.{div-add-mod', add-zero}
+use native.Mathlib.Numerals.{add-one}
+use native.Mathlib.Omega.{arith}
+use lib.ListN.{length, getD, length-append}
+use lib.Seq.{getD-append-add}
+use lib.Dec.{ltb, eqb}
+use borrow.Author.Tests.{lt-ltb, le-ltb, ltb-true, ltb-false}
+use Rattle.lists.specs.Places.{elementAt, firsts, row, joined}
+use Rattle.lists.specs.Refusals.{refuse, orElse}
+use Rattle.lists.specs.Chains.{firstNumber}
+use Rattle.lists.proofs.Places.{length-firsts, firsts-at, row-at, row-none, row-next, row-agree, joined-none, joined-next}
+use Rattle.lists.proofs.Refusals.{taken, or-pass, or-refused}
+use Rattle.lists.proofs.Chains.{number-zero, FirstBad, first-bad}
+use Rattle.lists.proofs.Runs.{joined-at-place}
+use Rattle.address.specs.declared.Station.{Station}
+use Rattle.address.specs.Wide.{stationBytes, stationIn}
+use Rattle.chart.specs.declared.ChartNode.{ChartNode}
+use Rattle.chart.specs.declared.Link.{Link}
+use Rattle.chart.specs.declared.Nodes.{Nodes}
+use Rattle.chart.specs.declared.Links.{Links}
+use Rattle.chart.specs.declared.Chart.{Chart}
+use Rattle.chart.specs.Values.{noStation, noNode, noLink, noChart, nodeAt, linkAt}
+use Rattle.chart.specs.Numbers.{nodeNumber, linkNumber, questionNumber}
+use Rattle.chart.proofs.Laws.{node-passed, link-passed}
+use Rattle.chart_read.specs.declared.SoFar.{SoFar}
+use Rattle.chart_read.specs.declared.Taken.{Taken}
+use Rattle.chart_read.specs.declared.Step.{Step}
+use Rattle.chart_read.specs.declared.ChartRead.{ChartRead}
+use Rattle.chart_read.specs.Fields.{tagged, bytesFrom, nodeIn, linkIn}
+use Rattle.chart_read.specs.Reading.{nothing, withNode, withLink, withQuestion, nodeLate, nodeBodyNumber, linkBodyNumber, questionBodyNumber, taking, bodyTaken, stepTo, stepOf, refusedAt, atEnd, chartReadOf}
+use Rattle.chart_read.proofs.Fields.{step-there, begins-there, past-there}
+use Rattle.chart_read.proofs.Walking.{Reaches, reach-start, reach-next, reach-refused, reach-end}
+use Rattle.chart_write.specs.Numbers.{nodesBefore, linksBefore, nodeNumberAt, linkNumberAt, valuesNumber}
+use Rattle.chart_write.specs.Writing.{nodeBody, onByte, linkBody, questionBody, nodeField, linkField, questionField, chartBytes, tidyNode, tidyAt, tidy}
+use Rattle.chart_write.proofs.Laws.{length-node-body}
+use Rattle.chart_write.proofs.Agree.{SameNodes, SameLinks, node-agree, link-agree, question-agree, tidy-number}
+
+-- ---- each body, read back
+
+station-back : (s : Station) (rest : List ℕ) → stationIn (stationBytes s ++ rest) 0 ≡ s
+station-back s rest = ap (λ (k : ℕ). record { brigade = s .brigade; node = record { 0 = k } }) (div-add-mod' (s .node .0) 256)
+
+label-back : (n : ChartNode) (i : ℕ) → i < n .length → bytesFrom (nodeBody n) 3 i ≡ elementAt 0 (n .label) i
+unfolding bytesFrom nodeBody
+label-back n i h =
+    getD-append-add (stationBytes (n .station)) (firsts (elementAt 0 (n .label)) (n .length)) i 0
+    ∙ firsts-at (elementAt 0 (n .label)) (n .length) i 0 h
+
+pub node-back : (n : ChartNode) → nodeIn (nodeBody n) ≡ tidyNode n
+unfolding nodeIn tidyNode
+node-back n =
+    let k : length (nodeBody n) - 3 ≡ n .length = omega (arith, length-node-body n) in
+    let s : stationIn (nodeBody n) 0 ≡ n .station = unfold nodeBody in station-back (n .station) (firsts (elementAt 0 (n .label)) (n .length)) in
+    let r : row 24 0 (bytesFrom (nodeBody n) 3) (length (nodeBody n) - 3) ≡ row 24 0 (elementAt 0 (n .label)) (n .length) =
+    ap (row 24 0 (bytesFrom (nodeBody n) 3)) k ∙ row-agree 24 0 (bytesFrom (nodeBody n) 3) (elementAt 0 (n .label)) (n .length) (label-back n) in
+    λ i. record { station = s i; length = k i; label = r i }
+
+-- a label of more than 24 bytes is refused by the length of its field, as by its own number
+pub node-number-back : (s : SoFar) (n : ChartNode) → nodeBodyNumber s (nodeBody n) ≡ nodeNumber (nodeLate s) (s .chart .nodes) n
+unfolding nodeBodyNumber
+node-number-back s n =
+    let late = nodeLate s in
+    let ns = s .chart .nodes in
+    rw (le-ltb (length (nodeBody n)) 3 (omega (arith, length-node-body n)))
+    (by (ltb 24 (n .length)) refl (ap (nodeNumber late ns) (node-back n) ∙ tidy-number late ns n))
+  where
+    by : (b : Bool) → ltb 24 (n .length) ≡ b → nodeNumber (nodeLate s) (s .chart .nodes) (nodeIn (nodeBody n)) ≡ nodeNumber (nodeLate s) (s .chart .nodes) n
+        → refuse 23 (ltb 27 (length (nodeBody n))) (nodeNumber (nodeLate s) (s .chart .nodes) (nodeIn (nodeBody n))) ≡ nodeNumber (nodeLate s) (s .chart .nodes) n
+    by true h e =
+        let l : 24 < n .length = ltb-true 24 (n .length) h in
+        rw (lt-ltb 27 (length (nodeBody n)) (omega (arith, length-node-body n))) (unfold nodeNumber in rw h refl)
+    by false h e =
+        let l : n .length ≤ 24 = ltb-false 24 (n .length) h in
+        rw (le-ltb 27 (length (nodeBody n)) (omega (arith, length-node-body n))) e
+
+on-back : (on : Bool) → eqb (onByte on) 1 ≡ on
+on-back true = refl
+on-back false = refl
+
+on-small : (on : Bool) → ltb 1 (onByte on) ≡ false
+on-small true = refl
+on-small false = refl
+
+pub link-back : (l : Link) → linkIn (linkBody l) ≡ l
+unfolding linkIn linkBody
+link-back l =
+    let a = div-add-mod' (l .a .node .0) 256 in
+    let b = div-add-mod' (l .b .node .0) 256 in
+    λ i. record {
+      a = record { brigade = l .a .brigade; node = record { 0 = a i }; port = l .a .port };
+      b = record { brigade = l .b .brigade; node = record { 0 = b i }; port = l .b .port };
+      on = on-back (l .on) i;
+    }
+
+pub link-number-back : (s : SoFar) (l : Link) → linkBodyNumber s (linkBody l) ≡ linkNumber (s .asked) (s .chart .nodes) (s .chart .links) l
+unfolding linkBodyNumber
+link-number-back s l =
+    let e : getD (linkBody l) 8 0 ≡ onByte (l .on) = unfold linkBody in refl in
+    let n : length (linkBody l) ≡ 9 = unfold linkBody in refl in
+    rw (n, e, on-small (l .on)) (ap (linkNumber (s .asked) (s .chart .nodes) (s .chart .links)) (link-back l))
+
+pub question-back : (from to : Station) → (stationIn (questionBody from to) 0 ≡ from) × (stationIn (questionBody from to) 3 ≡ to)
+unfolding questionBody
+question-back from to = (station-back from (stationBytes to), station-back to [])
+
+pub question-number-back : (s : SoFar) (from to : Station) → questionBodyNumber s (questionBody from to) ≡ questionNumber (s .asked) (s .chart .nodes) from to
+unfolding questionBodyNumber
+question-number-back s from to =
+    let n : length (questionBody from to) ≡ 6 = unfold questionBody in refl in
+    let q = question-back from to in
+    rw n (ap₂ (questionNumber (s .asked) (s .chart .nodes)) (q .0) (q .1))
+
+-- ---- a run of fields, one after the other
+
+-- a body that is taken leaves what its value adds
+pub held-of : (k : ℕ) (s : SoFar) → k ≡ 0 → taking k s .«so_far» ≡ s
+unfolding taking
+held-of k s e = taken s nothing e
+
+module _ {A : Type 0} (tag : ℕ) (body : A → List ℕ) (field : A → List ℕ) (is : (x : A) → field x ≡ tagged tag (body x))
+    (d : ℕ → A) (n : ℕ) (S : ℕ → SoFar) (num : ℕ → ℕ) (pre post : List ℕ)
+    (number : (i : ℕ) → i < n → bodyTaken (S i) tag (body (d i)) .number ≡ num i)
+    (held : (i : ℕ) → i < n → num i ≡ 0 → bodyTaken (S i) tag (body (d i)) .«so_far» ≡ S (i + 1)) where
+  abbrev input : List ℕ
+  input = pre ++ (joined field d n ++ post)
+
+  abbrev pub placeOf : ℕ → ℕ
+  placeOf i = length (pre ++ joined field d i)
+
+  -- the input around the field at place i
+  around : (i : ℕ) → i < n → (rest : List ℕ) × (input ≡ (pre ++ joined field d i) ++ (tagged tag (body (d i)) ++ rest))
+  around i h =
+      let r = joined-at-place field d n i h in
+      let F = joined field d i in (
+        r .0 ++ post,
+        ap (λ (x : List ℕ). pre ++ (x ++ post)) (r .1)
+            ∙ ap (λ (x : List ℕ). pre ++ x) (append-assoc F (field (d i) ++ r .0) post ∙ ap (λ (x : List ℕ). F ++ x) (append-assoc (field (d i)) (r .0) post))
+            ∙ sym (append-assoc pre F (field (d i) ++ (r .0 ++ post)))
+            ∙ ap (λ (x : List ℕ). (pre ++ F) ++ (x ++ (r .0 ++ post))) (is (d i)),
+      )
+
+  step-here : (i : ℕ) → i < n → stepOf (S i) input (placeOf i) ≡ stepTo (placeOf i + 3 + length (body (d i))) (bodyTaken (S i) tag (body (d i)))
+  step-here i h =
+      let a = around i h in
+      ap (λ (b : List ℕ). stepOf (S i) b (placeOf i)) (a .1) ∙ step-there (pre ++ joined field d i) tag (body (d i)) (a .0) (S i)
+
+  begins-here : (i : ℕ) → i < n → placeOf i < length input
+  begins-here i h =
+      let a = around i h in
+      subst (λ (b : List ℕ). placeOf i < length b) (sym (a .1)) (begins-there (pre ++ joined field d i) tag (body (d i)) (a .0))
+
+  past-here : (i : ℕ) → placeOf i + 3 + length (body (d i)) ≡ placeOf (i + 1)
+  past-here i =
+      past-there (pre ++ joined field d i) tag (body (d i)) []
+      ∙ ap length (ap (λ (x : List ℕ). (pre ++ joined field d i) ++ x) (sym (is (d i))) ∙ append-assoc pre (joined field d i) (field (d i)) ∙ ap (λ (x : List ℕ). pre ++ x) (sym (joined-next field d i)))
+
+  -- all before place i are taken
+  pub run-reaches : Reaches input (S 0) (placeOf 0) → (i : ℕ) → i ≤ n → firstNumber num i ≡ 0 → Reaches input (S i) (placeOf i)
+  run-reaches r zero h z = r
+  run-reaches r (suc i) h z =
+      let p : (firstNumber num i ≡ 0) × (num i ≡ 0) = unfold firstNumber in or-pass (firstNumber num i) (num i) z in
+      let l : i < n = omega arith in
+      let st = stepOf (S i) input (placeOf i) in
+      let k : st .number ≡ 0 = ap (λ (x : Step). x .number) (step-here i l) ∙ number i l ∙ p .1 in
+      let g = reach-next input (S i) (placeOf i) (begins-here i l) st refl (run-reaches r i (omega arith) (p .0)) k in
+      let e : st .«so_far» ≡ S (suc i) = ap (λ (x : Step). x .«so_far») (step-here i l) ∙ held i l (p .1) ∙ ap S (add-one i) in
+      let q : st .next ≡ placeOf (suc i) = ap (λ (x : Step). x .next) (step-here i l) ∙ past-here i ∙ ap placeOf (add-one i) in
+      subst (λ (t : SoFar). Reaches input t (placeOf (suc i))) e (subst (λ (a : ℕ). Reaches input (st .«so_far») a) q g)
+
+  -- the first bad one decides
+  pub run-refused : Reaches input (S 0) (placeOf 0) → (b : FirstBad num n) → chartReadOf input ≡ refusedAt (firstNumber num n) (placeOf (b .place))
+  run-refused r b =
+      let i = b .place in
+      let l = b .below in
+      let st = stepOf (S i) input (placeOf i) in
+      let k : st .number ≡ num i = ap (λ (x : Step). x .number) (step-here i l) ∙ number i l in
+      sym (ap (λ (m : ℕ). refusedAt m (placeOf i)) (b .same ∙ sym k)
+      ∙ reach-refused input (S i) (placeOf i) (begins-here i l) st refl (run-reaches r i (omega (arith, l)) (b .before)) (λ z. b .bad (sym k ∙ z)))

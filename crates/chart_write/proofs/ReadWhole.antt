@@ -1,0 +1,293 @@
+-- Reading undoes writing, of a whole chart: its nodes, its links and its question are three runs, and the number is that of the first bad value.
+use Prim.Native.Nat.{ℕ, zero, suc, _+_, _<_, _≤_}
+use mathlib.Core.Path.{_≡_, refl, sym, ap, subst, _∙_}
+use mathlib.Core.List.{List, [], _++_, append-assoc, append-nil}
+use mathlib.Core.Bool.{Bool, true, false}
+use native.Mathlib.Nat.{le-refl}
+use native.Mathlib.Omega.{arith}
+use lib.ListN.{length, set, replicate, length-append}
+use Rattle.lists.specs.Places.{elementAt, row, joined}
+use Rattle.lists.specs.Refusals.{orElse}
+use Rattle.lists.specs.Chains.{firstNumber}
+use Rattle.lists.proofs.Places.{row-at, row-none, row-next, joined-none}
+use Rattle.lists.proofs.Chains.{FirstBad, first-bad}
+use Rattle.lists.proofs.Refusals.{or-refused}
+use Rattle.address.specs.declared.Station.{Station}
+use Rattle.chart.specs.declared.ChartNode.{ChartNode}
+use Rattle.chart.specs.declared.Link.{Link}
+use Rattle.chart.specs.declared.Nodes.{Nodes}
+use Rattle.chart.specs.declared.Links.{Links}
+use Rattle.chart.specs.declared.Chart.{Chart}
+use Rattle.chart.specs.Values.{noStation, noNode, noLink, noChart, nodeAt, linkAt}
+use Rattle.chart.specs.Numbers.{nodeNumber, linkNumber, questionNumber}
+use Rattle.chart_read.specs.declared.SoFar.{SoFar}
+use Rattle.chart_read.specs.declared.ChartRead.{ChartRead}
+use Rattle.chart_read.specs.Fields.{tagged, nodeIn, linkIn}
+use Rattle.chart_read.specs.Reading.{nothing, withNode, withLink, withQuestion, nodeLate, nodeBodyNumber, linkBodyNumber, questionBodyNumber, taking, bodyTaken, refusedAt, atEnd, chartReadOf}
+use Rattle.chart_read.proofs.Walking.{Reaches, reach-start, reach-end}
+use Rattle.chart_write.specs.Numbers.{nodesBefore, linksBefore, nodeNumberAt, linkNumberAt, valuesNumber}
+use Rattle.chart_write.specs.Writing.{nodeBody, linkBody, questionBody, nodeField, linkField, questionField, chartBytes, tidyNode, tidyAt, tidy}
+use Rattle.chart_write.proofs.Agree.{SameNodes, SameLinks, node-agree, link-agree, question-agree}
+use Rattle.chart_write.proofs.ReadBack.{node-back, link-back, question-back, node-number-back, link-number-back, question-number-back, held-of, run-reaches, run-refused}
+
+-- what is held after the first i nodes, and after all nodes and the first i links
+unfoldable heldNodes : Nodes → ℕ → SoFar
+heldNodes ns i =
+    record {
+      chart = record {
+        nodes = record { count = i; items = row 16 noNode (tidyAt ns) i };
+        links = record { count = 0; items = replicate 48 noLink };
+        from = noStation;
+        to = noStation;
+      };
+      asked = false;
+    }
+
+unfoldable heldLinks : Chart → ℕ → SoFar
+heldLinks c i =
+    record {
+      chart = record {
+        nodes = record { count = c .nodes .count; items = row 16 noNode (tidyAt (c .nodes)) (c .nodes .count) };
+        links = record { count = i; items = row 48 noLink (linkAt (c .links)) i };
+        from = noStation;
+        to = noStation;
+      };
+      asked = false;
+    }
+
+-- before and after the question
+unfoldable heldAll : Chart → ℕ → SoFar
+heldAll c zero = heldLinks c (c .links .count)
+heldAll c (suc i) = record { chart = tidy c; asked = true }
+
+nodes-start : (ns : Nodes) → nothing ≡ heldNodes ns 0
+unfolding nothing noChart heldNodes
+nodes-start ns = λ j.
+    record {
+      chart = record {
+        nodes = record { count = 0; items = sym (row-none 16 noNode (tidyAt ns)) j };
+        links = record { count = 0; items = replicate 48 noLink };
+        from = noStation;
+        to = noStation;
+      };
+      asked = false;
+    }
+
+links-start : (c : Chart) → heldNodes (c .nodes) (c .nodes .count) ≡ heldLinks c 0
+unfolding heldNodes heldLinks
+links-start c = λ j.
+    record {
+      chart = record {
+        nodes = record { count = c .nodes .count; items = row 16 noNode (tidyAt (c .nodes)) (c .nodes .count) };
+        links = record { count = 0; items = sym (row-none 48 noLink (linkAt (c .links))) j };
+        from = noStation;
+        to = noStation;
+      };
+      asked = false;
+    }
+
+nodes-next : (ns : Nodes) (i : ℕ) → i < 16 → withNode (heldNodes ns i) (tidyNode (nodeAt ns i)) ≡ heldNodes ns (i + 1)
+unfolding withNode heldNodes
+nodes-next ns i h =
+    let e : set (row 16 noNode (tidyAt ns) i) i (tidyNode (nodeAt ns i)) ≡ row 16 noNode (tidyAt ns) (i + 1) = unfold tidyAt in row-next 16 noNode (tidyAt ns) i h in
+    λ j.
+    record {
+      chart = record {
+        nodes = record { count = i + 1; items = e j };
+        links = record { count = 0; items = replicate 48 noLink };
+        from = noStation;
+        to = noStation;
+      };
+      asked = false;
+    }
+
+links-next : (c : Chart) (i : ℕ) → i < 48 → withLink (heldLinks c i) (linkAt (c .links) i) ≡ heldLinks c (i + 1)
+unfolding withLink heldLinks
+links-next c i h = λ j.
+    record {
+      chart = record {
+        nodes = record { count = c .nodes .count; items = row 16 noNode (tidyAt (c .nodes)) (c .nodes .count) };
+        links = record { count = i + 1; items = row-next 48 noLink (linkAt (c .links)) i h j };
+        from = noStation;
+        to = noStation;
+      };
+      asked = false;
+    }
+
+-- the nodes that are held have the chart's stations, the links are the chart's
+same-nodes : (ns : Nodes) (i : ℕ) → SameNodes (record { count = i; items = row 16 noNode (tidyAt ns) i }) (nodesBefore ns i)
+unfolding nodeAt tidyAt tidyNode elementAt
+same-nodes ns i = record { count = refl; stations = λ j h. ap (λ (n : ChartNode). n .station) (sym (row-at 16 noNode (tidyAt ns) i j h)) }
+
+same-links : (ls : Links) (i : ℕ) → SameLinks (record { count = i; items = row 48 noLink (linkAt ls) i }) (linksBefore ls i)
+unfolding linkAt elementAt
+same-links ls i = record { count = refl; links = λ j h. sym (row-at 48 noLink (linkAt ls) i j h) }
+
+-- ---- the numbers of the three runs, and what is then held
+
+node-number : (ns : Nodes) (i : ℕ) → bodyTaken (heldNodes ns i) 1 (nodeBody (nodeAt ns i)) .number ≡ nodeNumberAt ns i
+unfolding bodyTaken taking heldNodes nodeLate nodeNumberAt
+node-number ns i = node-number-back (heldNodes ns i) (nodeAt ns i) ∙ node-agree _ _ (same-nodes ns i) false (nodeAt ns i)
+
+node-held : (ns : Nodes) (i : ℕ) → i < 16 → nodeNumberAt ns i ≡ 0 → bodyTaken (heldNodes ns i) 1 (nodeBody (nodeAt ns i)) .«so_far» ≡ heldNodes ns (i + 1)
+unfolding bodyTaken
+node-held ns i h z =
+    held-of (nodeBodyNumber (heldNodes ns i) (nodeBody (nodeAt ns i))) _ (at-zero ∙ z)
+    ∙ ap (withNode (heldNodes ns i)) (node-back (nodeAt ns i)) ∙ nodes-next ns i h
+  where
+    at-zero : nodeBodyNumber (heldNodes ns i) (nodeBody (nodeAt ns i)) ≡ nodeNumberAt ns i
+    at-zero = unfold taking in node-number ns i
+
+link-number : (c : Chart) (i : ℕ) → bodyTaken (heldLinks c i) 2 (linkBody (linkAt (c .links) i)) .number ≡ linkNumberAt (c .nodes) (c .links) i
+unfolding bodyTaken taking heldLinks linkNumberAt
+link-number c i =
+    link-number-back (heldLinks c i) (linkAt (c .links) i)
+    ∙ link-agree _ _ (same-nodes (c .nodes) (c .nodes .count)) _ _ (same-links (c .links) i) false (linkAt (c .links) i)
+
+link-held : (c : Chart) (i : ℕ) → i < 48 → linkNumberAt (c .nodes) (c .links) i ≡ 0
+    → bodyTaken (heldLinks c i) 2 (linkBody (linkAt (c .links) i)) .«so_far» ≡ heldLinks c (i + 1)
+unfolding bodyTaken
+link-held c i h z =
+    held-of (linkBodyNumber (heldLinks c i) (linkBody (linkAt (c .links) i))) _ (at-zero ∙ z)
+    ∙ ap (withLink (heldLinks c i)) (link-back (linkAt (c .links) i)) ∙ links-next c i h
+  where
+    at-zero : linkBodyNumber (heldLinks c i) (linkBody (linkAt (c .links) i)) ≡ linkNumberAt (c .nodes) (c .links) i
+    at-zero = unfold taking in link-number c i
+
+question-number : (c : Chart) → bodyTaken (heldLinks c (c .links .count)) 3 (questionBody (c .from) (c .to)) .number ≡ questionNumber false (c .nodes) (c .from) (c .to)
+unfolding bodyTaken taking heldLinks
+question-number c =
+    question-number-back (heldLinks c (c .links .count)) (c .from) (c .to)
+    ∙ question-agree _ _ (same-nodes (c .nodes) (c .nodes .count)) false (c .from) (c .to)
+
+question-held : (c : Chart) → questionNumber false (c .nodes) (c .from) (c .to) ≡ 0
+    → bodyTaken (heldLinks c (c .links .count)) 3 (questionBody (c .from) (c .to)) .«so_far» ≡ record { chart = tidy c; asked = true }
+unfolding bodyTaken
+question-held c z =
+    let q = question-back (c .from) (c .to) in
+    held-of (questionBodyNumber (heldLinks c (c .links .count)) (questionBody (c .from) (c .to))) _ (at-zero ∙ z)
+    ∙ (λ j. withQuestion (heldLinks c (c .links .count)) (q .0 j) (q .1 j)) ∙ all
+  where
+    at-zero : questionBodyNumber (heldLinks c (c .links .count)) (questionBody (c .from) (c .to)) ≡ questionNumber false (c .nodes) (c .from) (c .to)
+    at-zero = unfold taking in question-number c
+
+    all : withQuestion (heldLinks c (c .links .count)) (c .from) (c .to) ≡ record { chart = tidy c; asked = true }
+    all = unfold withQuestion heldLinks tidy in refl
+
+-- ---- the whole chart
+
+module _ (c : Chart) (few-nodes : c .nodes .count ≤ 16) (few-links : c .links .count ≤ 48) where
+  abbrev N : List ℕ
+  N = joined nodeField (nodeAt (c .nodes)) (c .nodes .count)
+
+  abbrev L : List ℕ
+  L = joined linkField (linkAt (c .links)) (c .links .count)
+
+  abbrev Q : List ℕ
+  Q = questionField (c .from) (c .to)
+
+  abbrev nodeNum : ℕ → ℕ
+  nodeNum = nodeNumberAt (c .nodes)
+
+  abbrev linkNum : ℕ → ℕ
+  linkNum = linkNumberAt (c .nodes) (c .links)
+
+  abbrev questionNum : ℕ → ℕ
+  questionNum i = questionNumber false (c .nodes) (c .from) (c .to)
+
+  -- the question as a run of one
+  question-field : Chart → List ℕ
+  question-field x = questionField (x .from) (x .to)
+
+  -- how a reading ends: at some place with this number, or with the chart
+  abbrev Ends : ℕ → Type 0
+  Ends k = (chartReadOf (chartBytes c) .number ≡ k) × (k ≡ 0 → chartReadOf (chartBytes c) ≡ record { number = 0; place = 0; chart = tidy c })
+
+  refused-ends : (k place : ℕ) → (k ≡ 0 → ⊥) → chartReadOf (chartBytes c) ≡ refusedAt k place → Ends k
+  refused-ends k place h e = (ap (λ (r : ChartRead). r .number) e, λ z. absurd (h z))
+
+  nodes-reached : Reaches (chartBytes c) (heldNodes (c .nodes) 0) (length (joined nodeField (nodeAt (c .nodes)) 0))
+  nodes-reached =
+      subst (λ (s : SoFar). Reaches (chartBytes c) s (length (joined nodeField (nodeAt (c .nodes)) 0))) (nodes-start (c .nodes))
+      (subst (λ (l : List ℕ). Reaches (chartBytes c) nothing (length l)) (sym (joined-none nodeField (nodeAt (c .nodes)))) (reach-start (chartBytes c)))
+
+  links-reached : firstNumber nodeNum (c .nodes .count) ≡ 0 → Reaches (chartBytes c) (heldLinks c 0) (length (N ++ joined linkField (linkAt (c .links)) 0))
+  unfolding chartBytes nodeField
+  links-reached z =
+      subst (λ (s : SoFar). Reaches (chartBytes c) s (length (N ++ joined linkField (linkAt (c .links)) 0))) (links-start c)
+      (subst (λ (l : List ℕ). Reaches (chartBytes c) (heldNodes (c .nodes) (c .nodes .count)) (length l))
+      (sym (append-nil N) ∙ ap (λ (l : List ℕ). N ++ l) (sym (joined-none linkField (linkAt (c .links)))))
+      (run-reaches 1 nodeBody nodeField (λ x. refl) (nodeAt (c .nodes)) (c .nodes .count) (heldNodes (c .nodes)) nodeNum [] (L ++ Q)
+      (λ i h. node-number (c .nodes) i) (λ i h e. node-held (c .nodes) i (omega arith) e) nodes-reached (c .nodes .count) (le-refl (c .nodes .count)) z))
+
+  question-input : chartBytes c ≡ (N ++ L) ++ (joined question-field (λ i. c) 1 ++ [])
+  unfolding chartBytes question-field joined
+  question-input = sym (append-assoc N L Q) ∙ ap (λ (x : List ℕ). (N ++ L) ++ x) (sym (append-nil Q))
+
+  question-reached : firstNumber nodeNum (c .nodes .count) ≡ 0 → firstNumber linkNum (c .links .count) ≡ 0
+      → Reaches (chartBytes c) (heldAll c 0) (length ((N ++ L) ++ joined question-field (λ i. c) 0))
+  unfolding chartBytes linkField heldAll
+  question-reached z y =
+      subst (λ (l : List ℕ). Reaches (chartBytes c) (heldLinks c (c .links .count)) (length l))
+      (sym (append-nil (N ++ L)) ∙ ap (λ (l : List ℕ). (N ++ L) ++ l) (sym (joined-none question-field (λ i. c))))
+      (run-reaches 2 linkBody linkField (λ x. refl) (linkAt (c .links)) (c .links .count) (heldLinks c) linkNum N Q
+      (λ i h. link-number c i) (λ i h e. link-held c i (omega arith) e) (links-reached z) (c .links .count) (le-refl (c .links .count)) y)
+
+  one-number : (i : ℕ) → i < 1 → bodyTaken (heldAll c i) 3 (questionBody (c .from) (c .to)) .number ≡ questionNum i
+  unfolding heldAll
+  one-number zero h = question-number c
+  one-number (suc i) h = absurd (omega arith)
+
+  one-held : (i : ℕ) → i < 1 → questionNum i ≡ 0 → bodyTaken (heldAll c i) 3 (questionBody (c .from) (c .to)) .«so_far» ≡ heldAll c (i + 1)
+  unfolding heldAll
+  one-held zero h z = question-held c z
+  one-held (suc i) h z = absurd (omega arith)
+
+  -- the three runs in order
+  nodes-end : (firstNumber nodeNum (c .nodes .count) ≡ 0 → ⊥) → Ends (firstNumber nodeNum (c .nodes .count))
+  unfolding chartBytes nodeField
+  nodes-end h =
+      let b = first-bad nodeNum (c .nodes .count) h in
+      refused-ends _ _ h
+      (run-refused 1 nodeBody nodeField (λ x. refl) (nodeAt (c .nodes)) (c .nodes .count) (heldNodes (c .nodes)) nodeNum [] (L ++ Q)
+      (λ i l. node-number (c .nodes) i) (λ i l e. node-held (c .nodes) i (omega arith) e) nodes-reached b)
+
+  links-end : firstNumber nodeNum (c .nodes .count) ≡ 0 → (firstNumber linkNum (c .links .count) ≡ 0 → ⊥) → Ends (firstNumber linkNum (c .links .count))
+  unfolding chartBytes linkField
+  links-end z h =
+      let b = first-bad linkNum (c .links .count) h in
+      refused-ends _ _ h
+      (run-refused 2 linkBody linkField (λ x. refl) (linkAt (c .links)) (c .links .count) (heldLinks c) linkNum N Q
+      (λ i l. link-number c i) (λ i l e. link-held c i (omega arith) e) (links-reached z) b)
+
+  question-end : firstNumber nodeNum (c .nodes .count) ≡ 0 → firstNumber linkNum (c .links .count) ≡ 0 → (k : ℕ) → questionNum 0 ≡ k → Ends k
+  unfolding questionField question-field
+  question-end z y (suc k) e =
+      let first : firstNumber questionNum 1 ≡ suc k = unfold firstNumber in e in
+      let bad : firstNumber questionNum 1 ≡ 0 → ⊥ = λ x. absurd (let w : suc k ≡ 0 = sym first ∙ x in omega arith) in
+      let b = first-bad questionNum 1 bad in
+      let input = question-input in
+      subst Ends first
+      (refused-ends (firstNumber questionNum 1) _ bad
+      (ap chartReadOf input
+      ∙ run-refused 3 (λ (x : Chart). questionBody (x .from) (x .to)) question-field (λ x. refl) (λ i. c) 1 (heldAll c) questionNum (N ++ L) []
+      one-number one-held (subst (λ (l : List ℕ). Reaches l (heldAll c 0) (length ((N ++ L) ++ joined question-field (λ i. c) 0))) input (question-reached z y)) b))
+  question-end z y zero e =
+      let input = question-input in
+      let first : firstNumber questionNum 1 ≡ 0 = unfold firstNumber in e in
+      let r = run-reaches 3 (λ (x : Chart). questionBody (x .from) (x .to)) question-field (λ x. refl) (λ i. c) 1 (heldAll c) questionNum (N ++ L) []
+      one-number one-held (subst (λ (l : List ℕ). Reaches l (heldAll c 0) (length ((N ++ L) ++ joined question-field (λ i. c) 0))) input (question-reached z y)) 1 (le-refl 1) first in
+      let end : chartReadOf (chartBytes c) ≡ record { number = 0; place = 0; chart = tidy c } =
+      ap chartReadOf input ∙ sym (reach-end _ _ _ (omega (arith, length-append (N ++ L) (joined question-field (λ i. c) 1 ++ []), ap length (append-nil (joined question-field (λ i. c) 1)), length-append (N ++ L) (joined question-field (λ i. c) 1))) r)
+      ∙ (unfold heldAll in refl) in
+      (ap (λ (x : ChartRead). x .number) end, λ w. end)
+
+  -- the reader's number on the chart's bytes is the chart's own; where that is 0, the chart is read back
+  pub read-written : Ends (valuesNumber c)
+  unfolding valuesNumber
+  read-written = by (firstNumber nodeNum (c .nodes .count)) refl (firstNumber linkNum (c .links .count)) refl
+    where
+      by : (a : ℕ) → firstNumber nodeNum (c .nodes .count) ≡ a → (b : ℕ) → firstNumber linkNum (c .links .count) ≡ b → Ends (orElse a (orElse b (questionNum 0)))
+      by (suc a) e b f = subst Ends e (nodes-end (λ z. absurd (let w : suc a ≡ 0 = sym e ∙ z in omega arith)))
+      by zero e (suc b) f = subst Ends f (links-end e (λ z. absurd (let w : suc b ≡ 0 = sym f ∙ z in omega arith)))
+      by zero e zero f = question-end e f (questionNum 0) refl
