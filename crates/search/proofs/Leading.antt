@@ -7,7 +7,7 @@ use mathlib.Core.List.{List, []}
 use Prim.Native.Nat.{ℕ, zero, suc, _+_, _-_, _<_, _≤_}
 use native.Mathlib.Numerals.{add-one}
 use native.Mathlib.Omega.{arith}
-use borrow.Author.Tests.{eqb-true, eqb-false, lt-ltb, le-ltb, ltb-true}
+use borrow.Author.Tests.{eqb-true, eqb-false, eq-eqb, ne-eqb, lt-ltb, le-ltb, ltb-true}
 use lib.ListN.{length, getD, set, replicate}
 use lib.Seq.{getD-set-same, getD-set-other}
 use lib.Dec.{eqb, ltb}
@@ -40,6 +40,24 @@ other-below false p q a b n e = never (cc)
 other-below true true q a b n e = node-below b n e
 other-below true false true a b n e = node-below a n e
 other-below true false false a b n e = never (cc)
+
+-- the other end, test by test
+module _ (e : List ℕ) (way n : ℕ) where
+  pub other-off : (way ≡ 1 → ⊥) → None ≡ otherOf e way n
+  unfolding otherOf
+  other-off o = rw (ne-eqb way 1 o)
+
+  pub other-second : way ≡ 1 → getD e 0 0 ≡ n → nodePlace (getD e 1 0) ≡ otherOf e way n
+  unfolding otherOf
+  other-second o p = rw (eq-eqb way 1 o, eq-eqb (getD e 0 0) n p)
+
+  pub other-first : way ≡ 1 → (getD e 0 0 ≡ n → ⊥) → getD e 1 0 ≡ n → nodePlace (getD e 0 0) ≡ otherOf e way n
+  unfolding otherOf
+  other-first o p q = rw (eq-eqb way 1 o, ne-eqb (getD e 0 0) n p, eq-eqb (getD e 1 0) n q)
+
+  pub other-none : way ≡ 1 → (getD e 0 0 ≡ n → ⊥) → (getD e 1 0 ≡ n → ⊥) → None ≡ otherOf e way n
+  unfolding otherOf
+  other-none o p q = rw (eq-eqb way 1 o, ne-eqb (getD e 0 0) n p, ne-eqb (getD e 1 0) n q)
 
 module _ (ends : List (List ℕ)) (ways : List ℕ) (links : ℕ) where
   -- where there is such a link, the far end is the link's other end

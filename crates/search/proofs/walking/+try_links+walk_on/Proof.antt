@@ -118,7 +118,8 @@ try-links-add-try-links t c =
 try-links-try-links-requires : (t : ℕ) → try-links-lts.Need-try-links-requires (seek-reads.Asked, seek-reads.Learnt, nothing-reads.Asked, nothing-reads.Learnt, walk-on-below t, walk-on.Post, try-links-below t, try-links.Post) (try-links-at t) try-links.Post
 try-links-try-links-requires t c κs =
     let f = found-way t (c .before .before) in
-    (omega arith, c .before .before .before .before .before .before .pre .1)
+    let p = c .before .before .before .before .before .before .pre in
+    (omega arith, (p .1 .0, omega arith))
 
 try-links-returns-3 : (t : ℕ) → try-links-lts.Need-returns-3 (seek-reads.Asked, seek-reads.Learnt, nothing-reads.Asked, nothing-reads.Learnt, walk-on-below t, walk-on.Post, try-links-below t, try-links.Post) (try-links-at t) try-links.Post
 try-links-returns-3 t c =
