@@ -71,10 +71,8 @@ three-on b at h = rw (drop-cons b at 0 (omega arith), e1, drop-cons b (at + 1) 0
   where
     e1 : suc at ≡ at + 1
     e1 = sym (add-one at)
-
     e2 : suc (at + 1) ≡ at + 1 + 1
     e2 = sym (add-one (at + 1))
-
     e3 : suc (at + 1 + 1) ≡ at + 3
     e3 = omega arith
 

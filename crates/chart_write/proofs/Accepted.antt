@@ -26,9 +26,9 @@ accepted c h =
       few-links = p .few-links;
       once = λ i l. node-of c p i l .fresh;
       joins = λ i l.
-          let k = link-of c p i l in
-          let e = both-of (c .nodes) (stationOf (linkAt (c .links) i .a)) (stationOf (linkAt (c .links) i .b)) (k .ends) in
-          record { a = e .0; b = e .1; apart = k .apart };
+        let k = link-of c p i l in
+        let e = both-of (c .nodes) (stationOf (linkAt (c .links) i .a)) (stationOf (linkAt (c .links) i .b)) (k .ends) in
+        record { a = e .0; b = e .1; apart = k .apart };
       from = q .0;
       to = q .1;
     }

@@ -63,8 +63,8 @@ module _ (ns ms : Nodes) (e : SameNodes ns ms) where
     pub link-agree : (late : Bool) (l : Link) → linkNumber late ns ls l ≡ linkNumber late ms ks l
     unfolding linkNumber
     link-agree late l = λ i.
-        refuse 24 (not (linkInRange l)) (refuse 25 late (refuse 26 (ltb 16 (e .count i)) (refuse 26 (leb 48 (f .count i))
-        (refuse 28 (not (both-agree (stationOf (l .a)) (stationOf (l .b)) i)) (refuse 29 (sameStation (stationOf (l .a)) (stationOf (l .b))) (refuse 30 (either-agree l i) 0))))))
+      refuse 24 (not (linkInRange l)) (refuse 25 late (refuse 26 (ltb 16 (e .count i)) (refuse 26 (leb 48 (f .count i))
+      (refuse 28 (not (both-agree (stationOf (l .a)) (stationOf (l .b)) i)) (refuse 29 (sameStation (stationOf (l .a)) (stationOf (l .b))) (refuse 30 (either-agree l i) 0))))))
 
 -- a node's own number goes by its station, its label's length and whether the label is in range
 pub node-like : (late : Bool) (ns : Nodes) (n m : ChartNode) → n .station ≡ m .station → ltb 24 (n .length) ≡ ltb 24 (m .length)

@@ -2,6 +2,7 @@
 use Prim.Native.Nat.{ℕ, _-_}
 use mathlib.Core.Path.{_≡_, refl}
 use mathlib.Core.Bool.{true, false}
+use mathlib.Core.Option.{Option, none, some}
 use mathlib.Core.List.{List, [], _∷_, _++_}
 use lib.ListN.{length, replicate}
 use lib.Seq.{sets}
@@ -9,6 +10,7 @@ use Rattle.lists.specs.Places.{anyBelow, firstBelow, elementAt}
 use Rattle.lists.specs.Refusals.{unlessRefused}
 use Rattle.lists.specs.Chains.{firstNumber}
 use Rattle.address.specs.Address.{stationInRange, inRange, sameStation, sameAddress}
+use Rattle.chart.specs.declared.Nodes.{Nodes}
 use Rattle.chart.specs.declared.Chart.{Chart}
 use Rattle.chart.specs.Values.{nodeAt, linkAt, strayByte, nodeInRange, endInRange, linkInRange, standsAt, written, isEnd, endsAt, used}
 use Rattle.chart.specs.Numbers.{bothWritten, eitherUsed, nodeNumber, linkNumber, questionNumber}
@@ -75,3 +77,28 @@ Holds (k ∷ ks) = (asked (k .chart) (k .ask) ≡ meant (lent (k .ask)) (k .repl
 pub cases : Holds table
 unfolding sample chartNumber valuesNumber firstNumber nodeNumberAt linkNumberAt nodeNumber linkNumber questionNumber bothWritten eitherUsed nodeInRange linkInRange endInRange stationInRange inRange sameStation sameAddress written used standsAt endsAt isEnd nodeAt linkAt strayByte anyBelow firstBelow elementAt unlessRefused also only upFrom linksFrom via over tries routes tally unmet allFrom allRoutes firstOf sameLinks nextOf answerNumber answerRoute told firstRefusal nextRefusal stationAt placeIn crossed farIn chartNet start routesOf firstRefusalOf nextRefusalOf traceFirst traceNext
 cases = (refl, (refl, (refl, (refl, (refl, (refl, (refl, (refl, (refl, (refl, (refl, (refl, tt))))))))))))
+
+-- ---- the slip that document 01 warns of: nodes found by their labels
+
+-- the first node with the label of the node at a place
+abbrev pub labelPlace : Nodes → ℕ → ℕ
+labelPlace ns a = firstBelow (λ i. sameLinks (nodeAt ns i .label) (nodeAt ns a .label)) (ns .count)
+
+abbrev pub relabelled : Nodes → Option ℕ → Option ℕ
+relabelled ns none = none
+relabelled ns (some f) = some (labelPlace ns f)
+
+-- the routes if each link led to the first node with its far end's label
+abbrev pub routesByLabel : Chart → List (List ℕ)
+routesByLabel c =
+    allRoutes (record { nodes = c .nodes .count; links = c .links .count; far = λ i a. relabelled (c .nodes) (farIn (c .nodes) (c .links) i a); goal = placeIn (c .nodes) (c .to) })
+    (start c)
+
+-- on S the two nodes labelled Hill would be one: two routes in place of four
+pub record Slip : Type 0 where
+  pub right : routesOf S ≡ (0 ∷ 2 ∷ []) ∷ (0 ∷ 4 ∷ 3 ∷ []) ∷ (1 ∷ 3 ∷ []) ∷ (1 ∷ 4 ∷ 2 ∷ []) ∷ []
+  pub wrong : routesByLabel S ≡ (0 ∷ 2 ∷ []) ∷ (1 ∷ 2 ∷ []) ∷ []
+
+pub slip : Slip
+unfolding sample sameStation standsAt nodeAt linkAt anyBelow firstBelow elementAt also only upFrom linksFrom via over tries routes tally unmet allFrom allRoutes sameLinks stationAt placeIn crossed farIn chartNet start routesOf
+slip = record { right = refl; wrong = refl }
