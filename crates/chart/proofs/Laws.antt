@@ -1,13 +1,11 @@
 -- Laws of the chart's values: what a loop reads at a place, and what a number of 0 says of the value that it lets pass.
 use Prim.Native.Nat.{ℕ, _<_, _≤_}
-use mathlib.Core.Path.{_≡_, refl, sym, ap, _∙_}
+use mathlib.Core.Path.{_≡_, sym, ap}
 use mathlib.Core.List.{List}
-use mathlib.Core.Bool.{Bool, true, false, not, _&&_, _||_}
-use native.Mathlib.Omega.{arith}
+use mathlib.Core.Bool.{Bool, true, false, not, _&&_}
 use lib.ListN.{length, getD}
 use lib.Dec.{ltb, leb}
 use borrow.Author.Tests.{lt-ltb, le-ltb, ltb-false, leb-false, not-false}
-use Rattle.lists.specs.Places.{elementAt}
 use Rattle.lists.proofs.Places.{element-own}
 use Rattle.lists.proofs.Bools.{or-right, or-neither}
 use Rattle.lists.proofs.Refusals.{pass}
@@ -18,7 +16,7 @@ use Rattle.chart.specs.declared.ChartNode.{ChartNode}
 use Rattle.chart.specs.declared.Link.{Link}
 use Rattle.chart.specs.declared.Nodes.{Nodes}
 use Rattle.chart.specs.declared.Links.{Links}
-use Rattle.chart.specs.Values.{noNode, noLink, nodeAt, linkAt, strayByte, nodeInRange, linkInRange, standsAt, written, isEnd, endsAt, used}
+use Rattle.chart.specs.Values.{noNode, noLink, nodeAt, linkAt, strayByte, nodeInRange, linkInRange, standsAt, written, isEnd, endsAt}
 use Rattle.chart.specs.Numbers.{bothWritten, eitherUsed, nodeNumber, linkNumber, questionNumber}
 
 -- ---- what a loop reads at a place

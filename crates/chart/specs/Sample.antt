@@ -13,6 +13,7 @@ use Rattle.chart.specs.Values.{noNode, noLink}
 abbrev pub stationS : ℕ → Station
 stationS n = record { brigade = 9; node = record { 0 = n } }
 
+-- node n of brigade 9 with its label
 abbrev pub nodeS : ℕ → List ℕ → ChartNode
 nodeS n label = record { station = stationS n; length = length label; label = label ++ replicate (24 - length label) 0 }
 
@@ -48,5 +49,6 @@ sample first fourth t =
       to = stationS t;
     }
 
+-- the chart S itself
 abbrev pub S : Chart
 S = sample true true 30

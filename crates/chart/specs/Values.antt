@@ -71,6 +71,7 @@ nodeInRange n = stationInRange (n .station) && not (anyBelow (strayByte (n .labe
 unfoldable pub endInRange : Address → Bool
 endInRange e = leb 1 (e .port .0) && inRange e
 
+-- both ends are in range
 unfoldable pub linkInRange : Link → Bool
 linkInRange l = endInRange (l .a) && endInRange (l .b)
 
@@ -88,6 +89,7 @@ written ns s = anyBelow (standsAt ns s) (ns .count)
 unfoldable pub isEnd : Address → Link → Bool
 isEnd e l = sameAddress (l .a) e || sameAddress (l .b) e
 
+-- the address is an end of the link at a place
 unfoldable pub endsAt : Links → Address → ℕ → Bool
 endsAt ls e i = isEnd e (linkAt ls i)
 

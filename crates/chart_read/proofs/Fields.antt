@@ -1,7 +1,7 @@
 -- A tagged field at a place, once over its body: what the reader finds where one was written, and what it finds in any bytes.
 use Prim.Native.Nat.{ℕ, suc, _+_, _*_, _/_, _%_, _<_, _≤_}
 use mathlib.Core.Path.{_≡_, refl, sym, ap, ap₂, _∙_}
-use mathlib.Core.List.{List, [], _∷_, _++_}
+use mathlib.Core.List.{List, _∷_, _++_}
 use mathlib.Core.Bool.{Bool, true, false}
 use native.Mathlib.Nat.{div-add-mod'}
 use native.Mathlib.Numerals.{add-one}
@@ -12,8 +12,8 @@ use lib.Dec.{ltb}
 use borrow.Author.Tests.{ltb-false, ltb-true}
 use Rattle.lists.specs.Bytes.{Bytes, wordAt, wordBytes}
 use Rattle.chart_read.specs.declared.SoFar.{SoFar}
-use Rattle.chart_read.specs.Fields.{tagged, tagAt, bodyAt, pastField, cutShort}
-use Rattle.chart_read.specs.Reading.{nothing, taking, bodyTaken, stepTo, stepOf}
+use Rattle.chart_read.specs.Fields.{tagged, tagAt, bodyAt, pastField}
+use Rattle.chart_read.specs.Reading.{bodyTaken, stepTo, stepOf}
 use Rattle.chart_read.proofs.Laws.{step-whole}
 
 -- ---- where a field was written
@@ -71,8 +71,10 @@ three-on b at h = rw (drop-cons b at 0 (omega arith), e1, drop-cons b (at + 1) 0
   where
     e1 : suc at ≡ at + 1
     e1 = sym (add-one at)
+
     e2 : suc (at + 1) ≡ at + 1 + 1
     e2 = sym (add-one (at + 1))
+
     e3 : suc (at + 1 + 1) ≡ at + 3
     e3 = omega arith
 

@@ -1,5 +1,5 @@
 -- Laws of the reader's definitions, over plain values: a number with what is then held, and one field at a place.
-use Prim.Native.Nat.{ℕ, suc, _+_, _-_, _*_, _<_, _≤_}
+use Prim.Native.Nat.{ℕ, suc, _+_, _-_, _<_, _≤_}
 use mathlib.Core.Path.{_≡_, refl, sym, ap, ap₂, _∙_}
 use mathlib.Core.List.{List}
 use mathlib.Core.Bool.{Bool, true, false, cond}
@@ -7,12 +7,10 @@ use native.Mathlib.Omega.{arith}
 use lib.ListN.{length, getD, take, drop}
 use borrow.Author.Tests.{lt-ltb, le-ltb}
 use Rattle.lists.specs.Bytes.{wordAt}
-use Rattle.lists.specs.Refusals.{unlessRefused}
 use Rattle.lists.proofs.Refusals.{refused, taken}
 use Rattle.chart_read.specs.declared.SoFar.{SoFar}
 use Rattle.chart_read.specs.declared.Taken.{Taken}
-use Rattle.chart_read.specs.declared.Step.{Step}
-use Rattle.chart_read.specs.Fields.{tagAt, bodyAt, pastField, cutShort}
+use Rattle.chart_read.specs.Fields.{tagAt, bodyAt, pastField}
 use Rattle.chart_read.specs.Reading.{nothing, taking, bodyTaken, stepTo, stepOf}
 
 -- ---- a number with what is then held

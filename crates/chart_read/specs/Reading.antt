@@ -59,7 +59,7 @@ withQuestion s from to = record { chart = record { nodes = s .chart .nodes; link
 unfoldable pub nodeLate : SoFar → Bool
 nodeLate s = s .asked || ltb 0 (s .chart .links .count)
 
--- 23 for a length that the tag does not allow, then the value's own number
+-- a node's body: 23 for a length that the tag does not allow, then the node's own number
 unfoldable pub nodeBodyNumber : SoFar → List ℕ → ℕ
 nodeBodyNumber s b =
     refuse 23 (ltb (length b) shortestNode)
@@ -73,6 +73,7 @@ linkBodyNumber s b =
     (refuse 24 (ltb 1 (getD b 8 0))
     (linkNumber (s .asked) (s .chart .nodes) (s .chart .links) (linkIn b)))
 
+-- the question's body likewise
 unfoldable pub questionBodyNumber : SoFar → List ℕ → ℕ
 questionBodyNumber s b =
     refuse 23 (not (eqb (length b) questionLength))

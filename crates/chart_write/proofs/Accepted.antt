@@ -1,7 +1,6 @@
 -- An accepted chart is what `Accepted` says: each of its values passed its own tests.
-use Prim.Native.Nat.{ℕ, _<_}
 use mathlib.Core.Path.{_≡_}
-use mathlib.Core.Bool.{true, false, _&&_}
+use mathlib.Core.Bool.{true, false}
 use Rattle.lists.proofs.Bools.{and-left, and-right}
 use Rattle.address.specs.declared.Station.{Station}
 use Rattle.address.specs.Address.{stationOf}
@@ -10,8 +9,8 @@ use Rattle.chart.specs.declared.Chart.{Chart}
 use Rattle.chart.specs.Values.{linkAt, written}
 use Rattle.chart.specs.Numbers.{bothWritten}
 use Rattle.chart.proofs.Laws.{question-passed}
-use Rattle.chart_write.specs.Numbers.{chartNumber, Joins, Accepted}
-use Rattle.chart_write.proofs.Laws.{Passed, passed, node-of, link-of}
+use Rattle.chart_write.specs.Numbers.{chartNumber, Accepted}
+use Rattle.chart_write.proofs.Laws.{passed, node-of, link-of}
 
 pub both-of : (ns : Nodes) (s t : Station) → bothWritten ns s t ≡ true → (written ns s ≡ true) × (written ns t ≡ true)
 unfolding bothWritten
@@ -26,9 +25,9 @@ accepted c h =
       few-links = p .few-links;
       once = λ i l. node-of c p i l .fresh;
       joins = λ i l.
-        let k = link-of c p i l in
-        let e = both-of (c .nodes) (stationOf (linkAt (c .links) i .a)) (stationOf (linkAt (c .links) i .b)) (k .ends) in
-        record { a = e .0; b = e .1; apart = k .apart };
+          let k = link-of c p i l in
+          let e = both-of (c .nodes) (stationOf (linkAt (c .links) i .a)) (stationOf (linkAt (c .links) i .b)) (k .ends) in
+          record { a = e .0; b = e .1; apart = k .apart };
       from = q .0;
       to = q .1;
     }

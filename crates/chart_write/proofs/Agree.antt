@@ -1,7 +1,7 @@
 -- Numbers go by stations, ends and ranges alone: two charts that agree on these have the same numbers. A label's own bytes count only for its range.
 use Prim.Native.Nat.{ℕ, _<_}
 use mathlib.Core.Path.{_≡_, refl, sym, ap, ap₂, _∙_}
-use mathlib.Core.Bool.{Bool, true, false, not, _&&_, _||_}
+use mathlib.Core.Bool.{Bool, not, _&&_, _||_}
 use lib.Dec.{ltb, leb}
 use Rattle.lists.specs.Places.{anyBelow, elementAt, row}
 use Rattle.lists.specs.Refusals.{refuse}
@@ -63,8 +63,8 @@ module _ (ns ms : Nodes) (e : SameNodes ns ms) where
     pub link-agree : (late : Bool) (l : Link) → linkNumber late ns ls l ≡ linkNumber late ms ks l
     unfolding linkNumber
     link-agree late l = λ i.
-      refuse 24 (not (linkInRange l)) (refuse 25 late (refuse 26 (ltb 16 (e .count i)) (refuse 26 (leb 48 (f .count i))
-      (refuse 28 (not (both-agree (stationOf (l .a)) (stationOf (l .b)) i)) (refuse 29 (sameStation (stationOf (l .a)) (stationOf (l .b))) (refuse 30 (either-agree l i) 0))))))
+        refuse 24 (not (linkInRange l)) (refuse 25 late (refuse 26 (ltb 16 (e .count i)) (refuse 26 (leb 48 (f .count i))
+        (refuse 28 (not (both-agree (stationOf (l .a)) (stationOf (l .b)) i)) (refuse 29 (sameStation (stationOf (l .a)) (stationOf (l .b))) (refuse 30 (either-agree l i) 0))))))
 
 -- a node's own number goes by its station, its label's length and whether the label is in range
 pub node-like : (late : Bool) (ns : Nodes) (n m : ChartNode) → n .station ≡ m .station → ltb 24 (n .length) ≡ ltb 24 (m .length)

@@ -1,37 +1,34 @@
 -- Laws of the writer: how long its fields are, what an accepted chart is known to be, and its answer.
-use Prim.Native.Nat.{ℕ, suc, _+_, _*_, _/_, _%_, _<_, _≤_}
+use Prim.Native.Nat.{ℕ, _+_, _*_, _/_, _%_, _<_, _≤_}
 use mathlib.Core.Path.{_≡_, refl, sym, ap, ap₂, _∙_}
-use mathlib.Core.List.{List, [], _∷_, _++_, append-assoc}
-use mathlib.Core.Bool.{Bool, true, false, not, _&&_}
+use mathlib.Core.List.{List, _∷_, _++_, append-assoc}
+use mathlib.Core.Bool.{false}
 use native.Mathlib.Omega.{arith}
 use lib.ListN.{length, getD, drop, length-append}
 use lib.Seq.{sets}
 use lib.Dec.{ltb}
 use borrow.Author.Tests.{ltb-false, lt-ltb, le-ltb}
-use Rattle.lists.specs.Places.{elementAt, firsts, joined, sameAt, repeatAt, repeats}
-use Rattle.lists.specs.Refusals.{refuse, orElse, unlessRefused}
+use Rattle.lists.specs.Places.{elementAt, firsts, joined}
+use Rattle.lists.specs.Refusals.{unlessRefused}
 use Rattle.lists.specs.Chains.{firstNumber}
 use Rattle.lists.specs.declared.Written.{Written}
 use Rattle.lists.specs.declared.Written.the-variants.{Wrote, Refused}
 use Rattle.lists.specs.Writing.{writeNumber, writeCount, wroteUnless}
-use Rattle.lists.proofs.Bools.{and-left, and-right}
-use Rattle.lists.proofs.Places.{length-firsts, length-joined, any-more, any-none}
+use Rattle.lists.proofs.Places.{length-firsts, length-joined}
 use Rattle.lists.proofs.Refusals.{pass, or-pass, or-refused, taken, refused}
 use Rattle.lists.proofs.Chains.{number-zero}
 use Rattle.lists.proofs.Stores.{sets-append, sets-front}
-use Rattle.lists.proofs.Runs.{length-joined-next, joined-put, joined-most}
+use Rattle.lists.proofs.Runs.{length-joined-next, joined-put}
 use Rattle.lists.proofs.Writing.{wrote-number, wrote-count, wrote-taken, wrote-refused}
 use Rattle.address.specs.declared.Station.{Station}
-use Rattle.address.specs.Wide.{stationBytes}
-use Rattle.address.specs.Address.{stationOf, sameStation}
 use Rattle.chart.specs.declared.ChartNode.{ChartNode}
 use Rattle.chart.specs.declared.Link.{Link}
 use Rattle.chart.specs.declared.Nodes.{Nodes}
 use Rattle.chart.specs.declared.Links.{Links}
 use Rattle.chart.specs.declared.Chart.{Chart}
-use Rattle.chart.specs.Values.{nodeAt, linkAt, standsAt, written}
-use Rattle.chart.specs.Numbers.{bothWritten, nodeNumber, linkNumber, questionNumber}
-use Rattle.chart.proofs.Laws.{node-read, link-read, NodePassed, node-passed, LinkPassed, link-passed, QuestionPassed, question-passed}
+use Rattle.chart.specs.Values.{nodeAt, linkAt}
+use Rattle.chart.specs.Numbers.{nodeNumber, linkNumber, questionNumber}
+use Rattle.chart.proofs.Laws.{node-read, link-read, NodePassed, node-passed, LinkPassed, link-passed}
 use Rattle.chart_write.specs.Numbers.{nodesBefore, linksBefore, nodeNumberAt, linkNumberAt, valuesNumber, chartNumber}
 use Rattle.chart_read.specs.Fields.{tagged}
 use Rattle.chart_write.specs.Writing.{nodeBody, linkBody, questionBody, nodeField, linkField, questionField, chartBytes, chartRefusal, chartWriteOf, chartAfter}

@@ -1,44 +1,36 @@
 -- Reading undoes writing: the fields of a chart are read one after the other, and what is then held is the chart's first nodes and links.
-use Prim.Native.Nat.{ℕ, zero, suc, _+_, _-_, _*_, _<_, _≤_}
+use Prim.Native.Nat.{ℕ, zero, suc, _+_, _-_, _<_, _≤_}
 use mathlib.Core.Path.{_≡_, refl, sym, ap, ap₂, subst, _∙_}
-use mathlib.Core.List.{List, [], _∷_, _++_, append-assoc, append-nil}
-use mathlib.Core.Bool.{Bool, true, false, not, cond, _||_}
-use native.Mathlib.Nat.{div-add-mod', add-zero}
+use mathlib.Core.List.{List, [], _++_, append-assoc}
+use mathlib.Core.Bool.{Bool, true, false}
+use native.Mathlib.Nat.{div-add-mod'}
 use native.Mathlib.Numerals.{add-one}
 use native.Mathlib.Omega.{arith}
-use lib.ListN.{length, getD, length-append}
+use lib.ListN.{length, getD}
 use lib.Seq.{getD-append-add}
 use lib.Dec.{ltb, eqb}
 use borrow.Author.Tests.{lt-ltb, le-ltb, ltb-true, ltb-false}
 use Rattle.lists.specs.Places.{elementAt, firsts, row, joined}
-use Rattle.lists.specs.Refusals.{refuse, orElse}
+use Rattle.lists.specs.Refusals.{refuse}
 use Rattle.lists.specs.Chains.{firstNumber}
-use Rattle.lists.proofs.Places.{length-firsts, firsts-at, row-at, row-none, row-next, row-agree, joined-none, joined-next}
-use Rattle.lists.proofs.Refusals.{taken, or-pass, or-refused}
-use Rattle.lists.proofs.Chains.{number-zero, FirstBad, first-bad}
+use Rattle.lists.proofs.Places.{firsts-at, row-agree, joined-next}
+use Rattle.lists.proofs.Refusals.{taken, or-pass}
+use Rattle.lists.proofs.Chains.{FirstBad}
 use Rattle.lists.proofs.Runs.{joined-at-place}
 use Rattle.address.specs.declared.Station.{Station}
 use Rattle.address.specs.Wide.{stationBytes, stationIn}
 use Rattle.chart.specs.declared.ChartNode.{ChartNode}
 use Rattle.chart.specs.declared.Link.{Link}
-use Rattle.chart.specs.declared.Nodes.{Nodes}
-use Rattle.chart.specs.declared.Links.{Links}
-use Rattle.chart.specs.declared.Chart.{Chart}
-use Rattle.chart.specs.Values.{noStation, noNode, noLink, noChart, nodeAt, linkAt}
 use Rattle.chart.specs.Numbers.{nodeNumber, linkNumber, questionNumber}
-use Rattle.chart.proofs.Laws.{node-passed, link-passed}
 use Rattle.chart_read.specs.declared.SoFar.{SoFar}
-use Rattle.chart_read.specs.declared.Taken.{Taken}
 use Rattle.chart_read.specs.declared.Step.{Step}
-use Rattle.chart_read.specs.declared.ChartRead.{ChartRead}
 use Rattle.chart_read.specs.Fields.{tagged, bytesFrom, nodeIn, linkIn}
-use Rattle.chart_read.specs.Reading.{nothing, withNode, withLink, withQuestion, nodeLate, nodeBodyNumber, linkBodyNumber, questionBodyNumber, taking, bodyTaken, stepTo, stepOf, refusedAt, atEnd, chartReadOf}
+use Rattle.chart_read.specs.Reading.{nothing, nodeLate, nodeBodyNumber, linkBodyNumber, questionBodyNumber, taking, bodyTaken, stepTo, stepOf, refusedAt, chartReadOf}
 use Rattle.chart_read.proofs.Fields.{step-there, begins-there, past-there}
-use Rattle.chart_read.proofs.Walking.{Reaches, reach-start, reach-next, reach-refused, reach-end}
-use Rattle.chart_write.specs.Numbers.{nodesBefore, linksBefore, nodeNumberAt, linkNumberAt, valuesNumber}
-use Rattle.chart_write.specs.Writing.{nodeBody, onByte, linkBody, questionBody, nodeField, linkField, questionField, chartBytes, tidyNode, tidyAt, tidy}
+use Rattle.chart_read.proofs.Walking.{Reaches, reach-next, reach-refused}
+use Rattle.chart_write.specs.Writing.{nodeBody, onByte, linkBody, questionBody, tidyNode}
 use Rattle.chart_write.proofs.Laws.{length-node-body}
-use Rattle.chart_write.proofs.Agree.{SameNodes, SameLinks, node-agree, link-agree, question-agree, tidy-number}
+use Rattle.chart_write.proofs.Agree.{tidy-number}
 
 -- ---- each body, read back
 

@@ -2,7 +2,7 @@
 use Prim.Native.Nat.{ℕ, zero, suc, _+_, _<_, _≤_}
 use mathlib.Core.Path.{_≡_, refl, sym, ap, subst, _∙_}
 use mathlib.Core.List.{List, [], _++_, append-assoc, append-nil}
-use mathlib.Core.Bool.{Bool, true, false}
+use mathlib.Core.Bool.{true, false}
 use native.Mathlib.Nat.{le-refl}
 use native.Mathlib.Omega.{arith}
 use lib.ListN.{length, set, replicate, length-append}
@@ -10,20 +10,16 @@ use Rattle.lists.specs.Places.{elementAt, row, joined}
 use Rattle.lists.specs.Refusals.{orElse}
 use Rattle.lists.specs.Chains.{firstNumber}
 use Rattle.lists.proofs.Places.{row-at, row-none, row-next, joined-none}
-use Rattle.lists.proofs.Chains.{FirstBad, first-bad}
-use Rattle.lists.proofs.Refusals.{or-refused}
-use Rattle.address.specs.declared.Station.{Station}
+use Rattle.lists.proofs.Chains.{first-bad}
 use Rattle.chart.specs.declared.ChartNode.{ChartNode}
-use Rattle.chart.specs.declared.Link.{Link}
 use Rattle.chart.specs.declared.Nodes.{Nodes}
 use Rattle.chart.specs.declared.Links.{Links}
 use Rattle.chart.specs.declared.Chart.{Chart}
 use Rattle.chart.specs.Values.{noStation, noNode, noLink, noChart, nodeAt, linkAt}
-use Rattle.chart.specs.Numbers.{nodeNumber, linkNumber, questionNumber}
+use Rattle.chart.specs.Numbers.{questionNumber}
 use Rattle.chart_read.specs.declared.SoFar.{SoFar}
 use Rattle.chart_read.specs.declared.ChartRead.{ChartRead}
-use Rattle.chart_read.specs.Fields.{tagged, nodeIn, linkIn}
-use Rattle.chart_read.specs.Reading.{nothing, withNode, withLink, withQuestion, nodeLate, nodeBodyNumber, linkBodyNumber, questionBodyNumber, taking, bodyTaken, refusedAt, atEnd, chartReadOf}
+use Rattle.chart_read.specs.Reading.{nothing, withNode, withLink, withQuestion, nodeLate, nodeBodyNumber, linkBodyNumber, questionBodyNumber, taking, bodyTaken, refusedAt, chartReadOf}
 use Rattle.chart_read.proofs.Walking.{Reaches, reach-start, reach-end}
 use Rattle.chart_write.specs.Numbers.{nodesBefore, linksBefore, nodeNumberAt, linkNumberAt, valuesNumber}
 use Rattle.chart_write.specs.Writing.{nodeBody, linkBody, questionBody, nodeField, linkField, questionField, chartBytes, tidyNode, tidyAt, tidy}

@@ -1,3 +1,4 @@
 pub mod Numbers
 pub mod Writing
 pub mod Storing
+pub mod Promises

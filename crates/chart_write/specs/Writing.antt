@@ -18,16 +18,19 @@ use Rattle.chart.specs.Values.{mostNodes, mostLinks, longestLabel, noNode, noLi
 use Rattle.chart_read.specs.Fields.{nodeTag, linkTag, questionTag, tagged}
 use Rattle.chart_write.specs.Numbers.{chartNumber}
 
--- the bodies
+-- a node's body: its station, and as many bytes of label as it says
 unfoldable pub nodeBody : ChartNode → List ℕ
 nodeBody n = stationBytes (n .station) ++ firsts (elementAt 0 (n .label)) (n .length)
 
+-- 1 on, 0 off
 abbrev pub onByte : Bool → ℕ
 onByte on = cond on 1 0
 
+-- a link's body: its two ends, and whether it is on
 unfoldable pub linkBody : Link → List ℕ
 linkBody l = addressBytes (l .a) ++ addressBytes (l .b) ++ (onByte (l .on) ∷ [])
 
+-- the question's body: from and to
 unfoldable pub questionBody : Station → Station → List ℕ
 questionBody from to = stationBytes from ++ stationBytes to
 
@@ -66,6 +69,7 @@ chartAfter c out = unlessRefused (chartRefusal c (length out)) (chartBytes c ++ 
 unfoldable pub tidyNode : ChartNode → ChartNode
 tidyNode n = record { station = n .station; length = n .length; label = row longestLabel 0 (elementAt 0 (n .label)) (n .length) }
 
+-- the node at a place, tidied
 unfoldable pub tidyAt : Nodes → ℕ → ChartNode
 tidyAt ns i = tidyNode (nodeAt ns i)
 

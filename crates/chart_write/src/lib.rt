@@ -1,7 +1,6 @@
 // The chart's writer (document 01, "The chart"): a chart given as values is refused by number, or its bytes are put into a lent buffer.
 use chart::Chart;
 use lists::Written;
-use numbers::chart_number as number_of;
 use storing::chart_size;
 use storing::put_chart;
 ghost use mathlib.Core.Path.{_≡_};
@@ -23,7 +22,7 @@ pub fn write_chart(c: Chart, out: &mut [u8]) -> Written
     ensures count { λ r. ⌜ writeCount r ≡ unlessRefused (chartRefusal c (length (now (out .entry)))) (length (chartBytes c)) 0 ⌝ }
     ensures buffer { λ _. ⌜ now (out .exit) ≡ chartAfter c (now (out .entry)) ⌝ }
 {
-    let k = number_of(c);
+    let k = chart_number(c);
     if k != 0 {
         return Written::Refused(k);
     }

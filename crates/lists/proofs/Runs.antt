@@ -1,14 +1,14 @@
 -- Runs of things of any length, joined: one more stored, and what stands at its place.
 use Prim.Native.Nat.{ℕ, zero, suc, _+_, _*_, _-_, _<_, _≤_}
-use mathlib.Core.Path.{_≡_, refl, sym, ap, _∙_}
+use mathlib.Core.Path.{_≡_, refl, sym, ap, ap₂, _∙_}
 use mathlib.Core.List.{List, [], _∷_, _++_, append-assoc, append-nil}
 use native.Mathlib.Omega.{arith}
 use native.Mathlib.Numerals.{add-one}
-use native.Mathlib.Nat.{add-zero, add-suc, mul-suc, mul-zero}
-use lib.ListN.{length, getD, take, length-append}
-use lib.Seq.{sets, take-suc}
+use native.Mathlib.Nat.{add-zero, add-suc, mul-suc}
+use lib.ListN.{length, getD, take, set, length-append}
+use lib.Seq.{sets, take-suc, getD-set-same, getD-set-other}
 use Rattle.lists.specs.Places.{elementAt, firsts, joined}
-use Rattle.lists.proofs.Places.{joined-next}
+use Rattle.lists.proofs.Places.{joined-next, joined-agree}
 use Rattle.lists.proofs.Stores.{sets-append}
 
 -- the first n elements of a list
@@ -47,3 +47,13 @@ module _ {A : Type 0} (f : A → List ℕ) (d : ℕ → A) where
       let q : length (f (d n)) ≤ w = h n (omega arith) in
       let s : w * suc n ≡ w * n + w = mul-suc w n in
       rw (s, ← add-one n, e) (omega arith)
+
+-- one element more stored past the first n, and joined
+pub joined-set : {A : Type 0} (f : A → List ℕ) (z : A) (l : List A) (n : ℕ) (x : A) → n < length l
+    → joined f (elementAt z (set l n x)) (n + 1) ≡ joined f (elementAt z l) n ++ f x
+unfolding elementAt
+joined-set f z l n x h =
+    joined-next f (elementAt z (set l n x)) n
+    ∙ ap₂ (λ (p q : List ℕ). p ++ q)
+    (joined-agree f (elementAt z (set l n x)) (elementAt z l) n (λ i k. getD-set-other l n i x z (λ e. omega arith)))
+    (ap f (getD-set-same l n x z h))

@@ -1,11 +1,10 @@
 -- `chart_write::storing::nodes_size` meets its contract. The loop's invariant: size is that of the nodes before i.
-use Prim.Native.Nat.{_+_, _*_, _≤_, _-_}
-use mathlib.Core.Path.{_≡_, refl, sym, ap, _∙_}
+use Prim.Native.Nat.{_*_, _≤_, _-_}
+use mathlib.Core.Path.{_≡_, refl}
 use lib.ListN.{length, length-map}
-use lib.Seq.{sets, length-sets}
 use Rattle.lists.specs.Places.{joined}
 use Rattle.lists.proofs.Places.{joined-none}
-use Rattle.chart.specs.Values.{nodeAt, linkAt}
+use Rattle.chart.specs.Values.{nodeAt}
 use Rattle.chart_write.specs.Writing.{nodeField}
 use Rattle.chart_write.proofs.Laws.{size-next}
 use borrow.Author.Needs.{needs}

@@ -1,11 +1,11 @@
 -- `chart_write::storing::put_links` meets its contract. The loop's invariant: the links before i are stored.
-use Prim.Native.Nat.{_+_, _*_, _≤_, _-_}
-use mathlib.Core.Path.{_≡_, refl, sym, ap, _∙_}
+use Prim.Native.Nat.{_≤_, _-_}
+use mathlib.Core.Path.{_≡_, refl, ap, _∙_}
 use lib.ListN.{length, length-map}
 use lib.Seq.{sets, length-sets}
 use Rattle.lists.specs.Places.{joined}
 use Rattle.lists.proofs.Places.{joined-none}
-use Rattle.chart.specs.Values.{nodeAt, linkAt}
+use Rattle.chart.specs.Values.{linkAt}
 use Rattle.chart_write.specs.Writing.{linkField}
 use Rattle.chart_write.proofs.Laws.{link-stored}
 use borrow.Author.Needs.{needs}

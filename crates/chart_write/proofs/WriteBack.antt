@@ -1,0 +1,370 @@
+-- Writing undoes reading: at each place of an input the bytes before it are those of what is held, so that at the end they are the chart's.
+use Prim.Native.Nat.{ℕ, suc, zero, _+_, _-_, _*_, _<_, _≤_}
+use mathlib.Core.Path.{_≡_, refl, sym, ap, ap₂, subst, subst₂, _∙_}
+use mathlib.Core.List.{List, [], _∷_, _++_, append-assoc, append-nil}
+use mathlib.Core.Bool.{Bool, true, false, not, cond}
+use native.Mathlib.Decide.{decLt}
+use native.Mathlib.Omega.{arith}
+use lib.ListN.{length, take, drop, getD, set, length-set, length-drop, length-append, drop-of-length-le}
+use lib.Seq.{take-all, getD-set-same, getD-set-other, getD-drop, length-take-le}
+use lib.Dec.{ltb, leb, eqb}
+use borrow.Author.Tests.{ltb-false, leb-true, leb-false, eqb-true, not-false}
+use Rattle.lists.specs.Bytes.{Bytes}
+use Rattle.lists.specs.Places.{elementAt, firsts, row, joined}
+use Rattle.lists.proofs.Bools.{or-neither-of}
+use Rattle.lists.proofs.Places.{firsts-agree, row-at, joined-none}
+use Rattle.lists.proofs.Refusals.{pass}
+use Rattle.lists.proofs.Runs.{firsts-take, joined-set, joined-most}
+use Rattle.address.specs.declared.Station.{Station}
+use Rattle.address.specs.Wide.{stationIn}
+use Rattle.chart.specs.declared.ChartNode.{ChartNode}
+use Rattle.chart.specs.declared.Link.{Link}
+use Rattle.chart.specs.declared.Chart.{Chart}
+use Rattle.chart.specs.Values.{noChart, noNode, noLink, nodeAt, linkAt}
+use Rattle.chart.specs.Numbers.{nodeNumber, linkNumber, questionNumber}
+use Rattle.chart.proofs.Laws.{node-passed, link-passed, question-passed}
+use Rattle.chart_read.specs.declared.SoFar.{SoFar}
+use Rattle.chart_read.specs.declared.Taken.{Taken}
+use Rattle.chart_read.specs.declared.Step.{Step}
+use Rattle.chart_read.specs.declared.ChartRead.{ChartRead}
+use Rattle.chart_read.specs.Fields.{tagged, tagAt, bodyAt, pastField, cutShort, bytesFrom, nodeIn, linkIn}
+use Rattle.chart_read.specs.Reading.{nothing, withNode, withLink, withQuestion, nodeLate, nodeBodyNumber, linkBodyNumber, questionBodyNumber, taking, bodyTaken, stepTo, stepOf, refusedAt, atEnd, onward, walk, chartReadOf}
+use Rattle.chart_read.proofs.Laws.{tag-first, tag-later}
+use Rattle.chart_read.proofs.Fields.{high-back, low-back, three-on, field-there, bytes-body}
+use Rattle.chart_read.proofs.Walking.{step-on, turn, walk-end}
+use Rattle.chart_write.specs.Writing.{nodeBody, onByte, linkBody, questionBody, nodeField, linkField, questionField, chartBytes}
+use Rattle.chart_write.proofs.Laws.{length-node, length-links, length-question}
+use Rattle.chart_write.proofs.ReadBack.{held-of}
+
+-- ---- the bodies: what a body says, written, is the body
+
+rest-firsts : (b : List ℕ) → firsts (bytesFrom b 3) (length b - 3) ≡ drop 3 b
+unfolding bytesFrom elementAt
+rest-firsts b =
+    let n : length (drop 3 b) ≡ length b - 3 = length-drop 3 b in
+    firsts-agree (bytesFrom b 3) (elementAt 0 (drop 3 b)) (length b - 3) (λ i h. sym (getD-drop 3 b i 0))
+    ∙ sym (firsts-take 0 (drop 3 b) (length b - 3) (omega arith))
+    ∙ take-all (length b - 3) (drop 3 b) (omega arith)
+
+node-body-back : (b : List ℕ) → Bytes b → 3 ≤ length b → nodeBody (nodeIn b) ≡ b
+unfolding nodeBody nodeIn
+node-body-back b s h =
+    let f : firsts (elementAt 0 (row 24 0 (bytesFrom b 3) (length b - 3))) (length b - 3) ≡ drop 3 b =
+    firsts-agree (elementAt 0 (row 24 0 (bytesFrom b 3) (length b - 3))) (bytesFrom b 3) (length b - 3) (λ i l. sym (row-at 24 0 (bytesFrom b 3) (length b - 3) i l)) ∙ rest-firsts b in
+    (λ i. getD b 0 0 ∷ high-back (getD b 1 0) (getD b 2 0) (s 2) i ∷ low-back (getD b 1 0) (getD b 2 0) (s 2) i ∷ f i)
+    ∙ sym (three-on b 0 (omega arith))
+
+on-is : (x : ℕ) → x ≤ 1 → onByte (eqb x 1) ≡ x
+on-is zero h = refl
+on-is (suc zero) h = refl
+on-is (suc (suc x)) h = absurd (omega arith)
+
+-- nine bytes, written out
+nine : (b : List ℕ) → length b ≡ 9
+    → b ≡ getD b 0 0 ∷ getD b 1 0 ∷ getD b 2 0 ∷ getD b 3 0 ∷ getD b 4 0 ∷ getD b 5 0 ∷ getD b 6 0 ∷ getD b 7 0 ∷ getD b 8 0 ∷ []
+nine b h =
+    three-on b 0 (omega arith)
+    ∙ ap (λ (t : List ℕ). getD b 0 0 ∷ getD b 1 0 ∷ getD b 2 0 ∷ t)
+    (three-on b 3 (omega arith)
+    ∙ ap (λ (t : List ℕ). getD b 3 0 ∷ getD b 4 0 ∷ getD b 5 0 ∷ t)
+    (three-on b 6 (omega arith) ∙ ap (λ (t : List ℕ). getD b 6 0 ∷ getD b 7 0 ∷ getD b 8 0 ∷ t) (drop-of-length-le b {i = 9} (omega arith))))
+
+link-body-back : (b : List ℕ) → Bytes b → length b ≡ 9 → getD b 8 0 ≤ 1 → linkBody (linkIn b) ≡ b
+unfolding linkBody linkIn
+link-body-back b s l o =
+    (λ i.
+    getD b 0 0 ∷ high-back (getD b 1 0) (getD b 2 0) (s 2) i ∷ low-back (getD b 1 0) (getD b 2 0) (s 2) i ∷ getD b 3 0
+    ∷ getD b 4 0 ∷ high-back (getD b 5 0) (getD b 6 0) (s 6) i ∷ low-back (getD b 5 0) (getD b 6 0) (s 6) i ∷ getD b 7 0
+    ∷ on-is (getD b 8 0) o i ∷ [])
+    ∙ sym (nine b l)
+
+question-body-back : (b : List ℕ) → Bytes b → length b ≡ 6 → questionBody (stationIn b 0) (stationIn b 3) ≡ b
+unfolding questionBody
+question-body-back b s l =
+    (λ i.
+    getD b 0 0 ∷ high-back (getD b 1 0) (getD b 2 0) (s 2) i ∷ low-back (getD b 1 0) (getD b 2 0) (s 2) i
+    ∷ getD b 3 0 ∷ high-back (getD b 4 0) (getD b 5 0) (s 5) i ∷ low-back (getD b 4 0) (getD b 5 0) (s 5) i ∷ [])
+    ∙ sym (three-on b 0 (omega arith)
+    ∙ ap (λ (t : List ℕ). getD b 0 0 ∷ getD b 1 0 ∷ getD b 2 0 ∷ t)
+    (three-on b 3 (omega arith) ∙ ap (λ (t : List ℕ). getD b 3 0 ∷ getD b 4 0 ∷ getD b 5 0 ∷ t) (drop-of-length-le b {i = 6} (omega arith))))
+
+-- ---- the bytes of what is held
+
+unfoldable heldBytes : SoFar → List ℕ
+heldBytes s =
+    joined nodeField (nodeAt (s .chart .nodes)) (s .chart .nodes .count)
+    ++ (joined linkField (linkAt (s .chart .links)) (s .chart .links .count)
+    ++ cond (s .asked) (questionField (s .chart .from) (s .chart .to)) [])
+
+record Kept (s : SoFar) : Type 0 where
+  nodes : length (s .chart .nodes .items) ≡ 16
+  links : length (s .chart .links .items) ≡ 48
+  few-nodes : s .chart .nodes .count ≤ 16
+  few-links : s .chart .links .count ≤ 48
+  short : (i : ℕ) → i < s .chart .nodes .count → nodeAt (s .chart .nodes) i .length ≤ 24
+
+-- one field more
+abbrev Grown : SoFar → SoFar → List ℕ → Type 0
+Grown s t field = (heldBytes t ≡ heldBytes s ++ field) × Kept t
+
+-- one node more with a short label
+set-short : (l : List ChartNode) (k : ℕ) (n : ChartNode) → k < length l → n .length ≤ 24 → ((j : ℕ) → j < k → elementAt noNode l j .length ≤ 24)
+    → (i : ℕ) → i < k + 1 → elementAt noNode (set l k n) i .length ≤ 24
+unfolding elementAt
+set-short l k n w m o i h = go (decLt i k)
+  where
+    go : Dec (i < k) → getD (set l k n) i noNode .length ≤ 24
+    go (yes q) = subst (λ (x : ChartNode). x .length ≤ 24) (sym (getD-set-other l k i n noNode (λ e. omega arith))) (o i q)
+    go (no q) =
+        let e : k ≡ i = omega arith in
+        subst (λ (x : ChartNode). x .length ≤ 24) (sym (ap (λ (j : ℕ). getD (set l k n) j noNode) (sym e) ∙ getD-set-same l k n noNode w)) m
+
+node-grown : (s : SoFar) (n : ChartNode) → Kept s → nodeNumber (nodeLate s) (s .chart .nodes) n ≡ 0 → Grown s (withNode s n) (nodeField n)
+unfolding heldBytes withNode nodeLate nodeAt
+node-grown s n k z =
+    let p = node-passed (nodeLate s) (s .chart .nodes) n z in
+    let c = s .chart in
+    let q = or-neither-of (s .asked) (ltb 0 (c .links .count)) (p .timely) in
+    let lc : c .links .count ≡ 0 = omega (arith, ltb-false 0 (c .links .count) (q .1)) in
+    let N = joined nodeField (elementAt noNode (c .nodes .items)) (c .nodes .count) in
+    let F = nodeField n in
+    let T = joined linkField (linkAt (c .links)) (c .links .count) ++ cond (s .asked) (questionField (c .from) (c .to)) [] in
+    let t : T ≡ [] =
+    ap₂ (λ (m : ℕ) (d : Bool). joined linkField (linkAt (c .links)) m ++ cond d (questionField (c .from) (c .to)) []) lc (q .0)
+    ∙ ap (λ (x : List ℕ). x ++ []) (joined-none linkField (linkAt (c .links))) in
+    let g : joined nodeField (elementAt noNode (set (c .nodes .items) (c .nodes .count) n)) (c .nodes .count + 1) ≡ N ++ F =
+    joined-set nodeField noNode (c .nodes .items) (c .nodes .count) n (omega (arith, k .nodes, p .room)) in (
+      ap₂ (λ (x y : List ℕ). x ++ y) g t ∙ append-nil (N ++ F) ∙ sym (ap (λ (y : List ℕ). (N ++ y) ++ F) t ∙ ap (λ (y : List ℕ). y ++ F) (append-nil N)),
+      record {
+        nodes = length-set (c .nodes .items) (c .nodes .count) n ∙ k .nodes;
+        links = k .links;
+        few-nodes = omega (arith, p .room);
+        few-links = k .few-links;
+        short = set-short (c .nodes .items) (c .nodes .count) n (omega (arith, k .nodes, p .room)) (p .short) (k .short);
+      },
+    )
+
+link-grown : (s : SoFar) (l : Link) → Kept s → linkNumber (s .asked) (s .chart .nodes) (s .chart .links) l ≡ 0 → Grown s (withLink s l) (linkField l)
+unfolding heldBytes withLink linkAt
+link-grown s l k z =
+    let p = link-passed (s .asked) (s .chart .nodes) (s .chart .links) l z in
+    let c = s .chart in
+    let N = joined nodeField (nodeAt (c .nodes)) (c .nodes .count) in
+    let L = joined linkField (elementAt noLink (c .links .items)) (c .links .count) in
+    let F = linkField l in
+    let Q = questionField (c .from) (c .to) in
+    let g : joined linkField (elementAt noLink (set (c .links .items) (c .links .count) l)) (c .links .count + 1) ≡ L ++ F =
+    joined-set linkField noLink (c .links .items) (c .links .count) l (omega (arith, k .links, p .room)) in (
+      ap₂ (λ (x : List ℕ) (d : Bool). N ++ (x ++ cond d Q [])) g (p .timely)
+          ∙ ap (λ (y : List ℕ). N ++ y) (append-nil (L ++ F))
+          ∙ sym (append-assoc N L F)
+          ∙ sym (ap (λ (d : Bool). (N ++ (L ++ cond d Q [])) ++ F) (p .timely) ∙ ap (λ (y : List ℕ). (N ++ y) ++ F) (append-nil L)),
+      record {
+        nodes = k .nodes;
+        links = length-set (c .links .items) (c .links .count) l ∙ k .links;
+        few-nodes = k .few-nodes;
+        few-links = omega (arith, p .room);
+        short = k .short;
+      },
+    )
+
+question-grown : (s : SoFar) (from to : Station) → Kept s → questionNumber (s .asked) (s .chart .nodes) from to ≡ 0 → Grown s (withQuestion s from to) (questionField from to)
+unfolding heldBytes withQuestion
+question-grown s from to k z =
+    let p = question-passed (s .asked) (s .chart .nodes) from to z in
+    let c = s .chart in
+    let N = joined nodeField (nodeAt (c .nodes)) (c .nodes .count) in
+    let L = joined linkField (linkAt (c .links)) (c .links .count) in
+    let F = questionField from to in (
+      sym (append-assoc N L F)
+          ∙ sym (ap (λ (d : Bool). (N ++ (L ++ cond d (questionField (c .from) (c .to)) [])) ++ F) (p .timely) ∙ ap (λ (y : List ℕ). (N ++ y) ++ F) (append-nil L)),
+      record { nodes = k .nodes; links = k .links; few-nodes = k .few-nodes; few-links = k .few-links; short = k .short },
+    )
+
+-- ---- a body that is taken
+
+grown-as : (s : SoFar) {a b : SoFar} {f g : List ℕ} → a ≡ b → f ≡ g → Grown s b g → Grown s a f
+grown-as s e p r = subst₂ (λ (x : SoFar) (y : List ℕ). Grown s x y) (sym e) (sym p) r
+
+node-tests : (s : SoFar) (b : List ℕ) → nodeBodyNumber s b ≡ 0 → (3 ≤ length b) × (nodeNumber (nodeLate s) (s .chart .nodes) (nodeIn b) ≡ 0)
+unfolding nodeBodyNumber
+node-tests s b h =
+    let p = pass 22 (ltb (length b) 3) _ h in
+    (ltb-false (length b) 3 (p .0), pass 22 (ltb 27 (length b)) _ (p .1) .1)
+
+node-step : (s : SoFar) (b : List ℕ) → Kept s → Bytes b → nodeBodyNumber s b ≡ 0 → Grown s (taking (nodeBodyNumber s b) (withNode s (nodeIn b)) .«so_far») (tagged 1 b)
+unfolding nodeField
+node-step s b k m z =
+    let p = node-tests s b z in
+    grown-as s (held-of (nodeBodyNumber s b) (withNode s (nodeIn b)) z) (sym (ap (tagged 1) (node-body-back b m (p .0)))) (node-grown s (nodeIn b) k (p .1))
+
+link-tests : (s : SoFar) (b : List ℕ) → linkBodyNumber s b ≡ 0 → (length b ≡ 9) × (getD b 8 0 ≤ 1) × (linkNumber (s .asked) (s .chart .nodes) (s .chart .links) (linkIn b) ≡ 0)
+unfolding linkBodyNumber
+link-tests s b h =
+    let p = pass 22 (not (eqb (length b) 9)) _ h in
+    let q = pass 23 (ltb 1 (getD b 8 0)) _ (p .1) in
+    (eqb-true (length b) 9 (not-false (eqb (length b) 9) (p .0)), ltb-false 1 (getD b 8 0) (q .0), q .1)
+
+link-step : (s : SoFar) (b : List ℕ) → Kept s → Bytes b → linkBodyNumber s b ≡ 0 → Grown s (taking (linkBodyNumber s b) (withLink s (linkIn b)) .«so_far») (tagged 2 b)
+unfolding linkField
+link-step s b k m z =
+    let p = link-tests s b z in
+    grown-as s (held-of (linkBodyNumber s b) (withLink s (linkIn b)) z) (sym (ap (tagged 2) (link-body-back b m (p .0) (p .1)))) (link-grown s (linkIn b) k (p .2))
+
+question-tests : (s : SoFar) (b : List ℕ) → questionBodyNumber s b ≡ 0 → (length b ≡ 6) × (questionNumber (s .asked) (s .chart .nodes) (stationIn b 0) (stationIn b 3) ≡ 0)
+unfolding questionBodyNumber
+question-tests s b h =
+    let p = pass 22 (not (eqb (length b) 6)) _ h in
+    (eqb-true (length b) 6 (not-false (eqb (length b) 6) (p .0)), p .1)
+
+question-step : (s : SoFar) (b : List ℕ) → Kept s → Bytes b → questionBodyNumber s b ≡ 0
+    → Grown s (taking (questionBodyNumber s b) (withQuestion s (stationIn b 0) (stationIn b 3)) .«so_far») (tagged 3 b)
+unfolding questionField
+question-step s b k m z =
+    let p = question-tests s b z in
+    grown-as s (held-of (questionBodyNumber s b) (withQuestion s (stationIn b 0) (stationIn b 3)) z) (sym (ap (tagged 3) (question-body-back b m (p .0)))) (question-grown s (stationIn b 0) (stationIn b 3) k (p .1))
+
+body-step : (s : SoFar) (tag : ℕ) (b : List ℕ) → Kept s → Bytes b → bodyTaken s tag b .number ≡ 0 → Grown s (bodyTaken s tag b .«so_far») (tagged tag b)
+unfolding bodyTaken
+body-step s tag b k m h = by (eqb tag 1) (eqb tag 2) (eqb tag 3) refl refl refl h
+  where
+    A : Taken
+    A = taking (nodeBodyNumber s b) (withNode s (nodeIn b))
+
+    B : Taken
+    B = taking (linkBodyNumber s b) (withLink s (linkIn b))
+
+    C : Taken
+    C = taking (questionBodyNumber s b) (withQuestion s (stationIn b 0) (stationIn b 3))
+
+    D : Taken
+    D = taking 22 nothing
+
+    number-of : (j : ℕ) (t : SoFar) → taking j t .number ≡ 0 → j ≡ 0
+    number-of j t e = unfold taking in e
+
+    by : (x y z : Bool) → eqb tag 1 ≡ x → eqb tag 2 ≡ y → eqb tag 3 ≡ z
+        → cond {A = Taken} x A (cond y B (cond z C D)) .number ≡ 0
+        → Grown s (cond {A = Taken} (eqb tag 1) A (cond (eqb tag 2) B (cond (eqb tag 3) C D)) .«so_far») (tagged tag b)
+    by true y z e f g h =
+        grown-as s (ap (λ (a : Taken). a .«so_far») (sym (tag-first A _ e))) (ap (λ (t : ℕ). tagged t b) (eqb-true tag 1 e)) (node-step s b k m (number-of _ _ h))
+    by false true z e f g h =
+        grown-as s (ap (λ (a : Taken). a .«so_far») (sym (tag-later A e (tag-first B _ f)))) (ap (λ (t : ℕ). tagged t b) (eqb-true tag 2 f)) (link-step s b k m (number-of _ _ h))
+    by false false true e f g h =
+        grown-as s (ap (λ (a : Taken). a .«so_far») (sym (tag-later A e (tag-later B f (tag-first C _ g))))) (ap (λ (t : ℕ). tagged t b) (eqb-true tag 3 g)) (question-step s b k m (number-of _ _ h))
+    by false false false e f g h = absurd (let w : _≡_ {A = ℕ} 22 0 = number-of 22 nothing h in omega arith)
+
+-- ---- the walk: what was passed is what is held
+
+held-all : (s : SoFar) → s .asked ≡ true → heldBytes s ≡ chartBytes (s .chart)
+unfolding heldBytes chartBytes
+held-all s d =
+    ap (λ (b : Bool).
+    joined nodeField (nodeAt (s .chart .nodes)) (s .chart .nodes .count)
+    ++ (joined linkField (linkAt (s .chart .links)) (s .chart .links .count) ++ cond b (questionField (s .chart .from) (s .chart .to)) [])) d
+
+held-small : (s : SoFar) → Kept s → length (heldBytes s) ≤ 1065
+unfolding heldBytes
+held-small s k =
+    let c = s .chart in
+    let N = joined nodeField (nodeAt (c .nodes)) (c .nodes .count) in
+    let L = joined linkField (linkAt (c .links)) (c .links .count) in
+    let T = cond (s .asked) (questionField (c .from) (c .to)) [] in
+    let n : length N ≤ 30 * c .nodes .count = joined-most nodeField (nodeAt (c .nodes)) 30 (c .nodes .count) (λ i h. omega (arith, length-node (nodeAt (c .nodes) i), k .short i h)) in
+    let l : length L ≡ 12 * c .links .count = length-links (c .links) (c .links .count) in
+    let q : length T ≤ 9 = tail (s .asked) in
+    omega (arith, length-append N (L ++ T), length-append L T, k .few-nodes, k .few-links)
+  where
+    tail : (b : Bool) → length (cond b (questionField (s .chart .from) (s .chart .to)) []) ≤ 9
+    tail true = omega (arith, length-question (s .chart .from) (s .chart .to))
+    tail false = omega arith
+
+module _ (bytes : List ℕ) (small : Bytes bytes) where
+  record Holds (s : SoFar) (at : ℕ) : Type 0 where
+    passed : heldBytes s ≡ take at bytes
+    within : at ≤ length bytes
+    kept : Kept s
+
+  -- what is to be shown of a reading
+  pub record Undone (c : Chart) : Type 0 where
+    pub same : chartBytes c ≡ bytes
+    pub few-nodes : c .nodes .count ≤ 16
+    pub few-links : c .links .count ≤ 48
+
+  pub record Good (r : ChartRead) : Type 0 where
+    pub undone : r .number ≡ 0 → Undone (r .chart)
+    pub near : r .place ≤ 1065
+
+  place-small : (s : SoFar) (at : ℕ) → Holds s at → at ≤ 1065
+  place-small s at H = omega (arith, held-small s (H .kept), ap length (H .passed), length-take-le at bytes (H .within))
+
+  whole-step : (s : SoFar) (at : ℕ) → stepOf s bytes at .number ≡ 0
+      → (cutShort bytes at ≡ false) × (stepOf s bytes at ≡ stepTo (pastField bytes at) (bodyTaken s (tagAt bytes at) (bodyAt bytes at)))
+  unfolding stepOf taking
+  whole-step s at h = by (cutShort bytes at) refl h
+    where
+      good : Step
+      good = stepTo (pastField bytes at) (bodyTaken s (tagAt bytes at) (bodyAt bytes at))
+
+      bad : Step
+      bad = stepTo (length bytes) (taking 21 nothing)
+
+      by : (b : Bool) → cutShort bytes at ≡ b → cond {A = Step} b bad good .number ≡ 0 → (cutShort bytes at ≡ false) × (cond (cutShort bytes at) bad good ≡ good)
+      by true e h = absurd (omega arith)
+      by false e h = (e, sym (tag-later bad e refl))
+
+  holds-next : (s : SoFar) (at : ℕ) → Holds s at → stepOf s bytes at .number ≡ 0 → Holds (stepOf s bytes at .«so_far») (stepOf s bytes at .next)
+  holds-next s at H z =
+      let w = whole-step s at z in
+      let t = bodyTaken s (tagAt bytes at) (bodyAt bytes at) in
+      let l : pastField bytes at ≤ length bytes = ltb-false (length bytes) (pastField bytes at) (w .0) in
+      let g = body-step s (tagAt bytes at) (bodyAt bytes at) (H .kept) (bytes-body bytes small at) (ap (λ (x : Step). x .number) (sym (w .1)) ∙ z) in
+      subst (λ (st : Step). Holds (st .«so_far») (st .next)) (sym (w .1))
+      (record {
+        passed = g .0 ∙ ap (λ (x : List ℕ). x ++ tagged (tagAt bytes at) (bodyAt bytes at)) (H .passed) ∙ sym (field-there bytes small at l);
+        within = l;
+        kept = g .1;
+      })
+
+  end-good : (s : SoFar) (at : ℕ) → Holds s at → length bytes ≤ at → Good (atEnd s (length bytes))
+  end-good s at H h = by (s .asked) refl
+    where
+      by : (b : Bool) → s .asked ≡ b → Good (cond {A = ChartRead} b (record { number = 0; place = 0; chart = s .chart }) (refusedAt 31 (length bytes)))
+      by true d = record { undone = λ z. record { same = sym (held-all s d) ∙ H .passed ∙ take-all at bytes h; few-nodes = H .kept .few-nodes; few-links = H .kept .few-links }; near = omega arith }
+      by false d = record { undone = λ z. absurd (omega arith); near = omega (arith, place-small s at H) }
+
+  walk-good : (k : ℕ) (s : SoFar) (at : ℕ) → Holds s at → length bytes ≤ at + k → Good (walk k s bytes at)
+  walk-good zero s at H h =
+      let g : length bytes ≤ at = omega arith in
+      subst Good (sym (walk-end zero s bytes at g)) (end-good s at H g)
+  walk-good (suc k) s at H h = by (λ t a G l. walk-good k t a G l) (leb (length bytes) at) refl
+    where
+      Onward : Type 0
+      Onward = (t : SoFar) (a : ℕ) → Holds t a → length bytes ≤ a + k → Good (walk k t bytes a)
+
+      on : Onward → at < length bytes → (n : ℕ) → stepOf s bytes at .number ≡ n
+          → Good (onward n at (λ u. walk k (stepOf s bytes at .«so_far») bytes (stepOf s bytes at .next)))
+      on go l zero e = go (stepOf s bytes at .«so_far») (stepOf s bytes at .next) (holds-next s at H e) (omega (arith, step-on s bytes at l))
+      on go l (suc n) e = record { undone = λ z. absurd (omega arith); near = place-small s at H }
+
+      by : Onward → (b : Bool) → leb (length bytes) at ≡ b → Good (walk (suc k) s bytes at)
+      by go true e =
+          let g : length bytes ≤ at = leb-true (length bytes) at e in
+          subst Good (sym (walk-end (suc k) s bytes at g)) (end-good s at H g)
+      by go false e =
+          let l : at < length bytes = leb-false (length bytes) at e in
+          subst Good (sym (turn k s bytes at l)) (on go l (stepOf s bytes at .number) refl)
+
+  -- an accepted chart is written as the bytes that it was read from; a refusal's place is small
+  pub read-good : Good (chartReadOf bytes)
+  unfolding chartReadOf
+  read-good =
+      walk-good (length bytes) nothing 0
+      (record { passed = start; within = omega arith; kept = kept })
+      (omega arith)
+    where
+      start : heldBytes nothing ≡ take 0 bytes
+      start = unfold heldBytes nothing noChart joined in refl
+
+      kept : Kept nothing
+      kept = unfold nothing noChart in record { nodes = refl; links = refl; few-nodes = omega arith; few-links = omega arith; short = λ i h. absurd (omega arith) }

@@ -1,0 +1,68 @@
+-- Charts are read and written and each undoes the other (document 01, "The chart"): what that says of the definitions. proofs/Promises.antt has the theorems.
+use Prim.Native.Nat.{ℕ, _<_, _≤_}
+use mathlib.Core.Path.{_≡_}
+use mathlib.Core.List.{List, [], _∷_, _++_}
+use mathlib.Core.Bool.{false}
+use lib.ListN.{length, take, drop, replicate}
+use Rattle.lists.specs.Places.{anyBelow, row}
+use Rattle.lists.specs.declared.Written.the-variants.{Wrote}
+use Rattle.chart.specs.declared.ChartNode.{ChartNode}
+use Rattle.chart.specs.declared.Nodes.{Nodes}
+use Rattle.chart.specs.declared.Chart.{Chart}
+use Rattle.chart.specs.Values.{mostNodes, mostLinks, longestLabel, noNode, nodeAt, strayByte}
+use Rattle.chart_read.specs.Reading.{chartReadOf}
+use Rattle.chart_write.specs.Numbers.{chartNumber}
+use Rattle.chart_write.specs.Writing.{chartBytes, chartWriteOf, chartAfter, tidy}
+
+-- the longest chart: 16 nodes of 30 bytes, 48 links of 12, a question of 9
+abbrev pub longestChart : ℕ
+longestChart = 1065
+
+-- reading undoes writing: the n bytes that were written are read as the chart, with what a writer does not look at at zero
+pub record ReadUndoesWrite (c : Chart) (out : List ℕ) (n : ℕ) : Type 0 where
+  pub chart : chartReadOf (take n (chartAfter c out)) ≡ record { number = 0; place = 0; chart = tidy c }
+  pub short : n ≤ longestChart
+
+-- writing undoes reading: the chart that was read is taken by the writer in any buffer with room, and its bytes are the input
+pub record WriteUndoesRead (bytes : List ℕ) (c : Chart) (out : List ℕ) : Type 0 where
+  pub number : chartNumber c ≡ 0
+  pub answer : chartWriteOf c (length out) ≡ Wrote (length bytes)
+  pub buffer : chartAfter c out ≡ bytes ++ drop (length bytes) out
+  pub short : length bytes ≤ longestChart
+
+-- a chart whose counts are within their limits has the number that the reader gives on its bytes
+abbrev pub SameNumber : Chart → Type 0
+SameNumber c = c .nodes .count ≤ mostNodes → c .links .count ≤ mostLinks → chartReadOf (chartBytes c) .number ≡ chartNumber c
+
+-- the numbers that the reader gives
+abbrev pub chartReaderNumbers : List ℕ
+chartReaderNumbers = 0 ∷ 21 ∷ 22 ∷ 23 ∷ 24 ∷ 25 ∷ 26 ∷ 27 ∷ 28 ∷ 29 ∷ 30 ∷ 31 ∷ []
+
+-- the numbers that the writer gives. Not 21, 22, 25 and 31: it works from values, and puts the fields in order itself
+abbrev pub chartWriterNumbers : List ℕ
+chartWriterNumbers = 0 ∷ 10 ∷ 23 ∷ 24 ∷ 26 ∷ 27 ∷ 28 ∷ 29 ∷ 30 ∷ []
+
+-- ---- labels are ink
+
+-- the node without its label
+unfoldable pub unlabelledAt : Nodes → ℕ → ChartNode
+unlabelledAt ns i = record { station = nodeAt ns i .station; length = 0; label = replicate 24 0 }
+
+-- the chart with all its labels empty
+unfoldable pub unlabelled : Chart → Chart
+unlabelled c =
+    record {
+      nodes = record { count = c .nodes .count; items = row mostNodes noNode (unlabelledAt (c .nodes)) (c .nodes .count) };
+      links = c .links;
+      from = c .from;
+      to = c .to;
+    }
+
+-- each label is short enough and of bytes that a label may have
+pub record LabelsInRange (ns : Nodes) : Type 0 where
+  pub short : (i : ℕ) → i < ns .count → nodeAt ns i .length ≤ longestLabel
+  pub bytes : (i : ℕ) → i < ns .count → anyBelow (strayByte (nodeAt ns i .label)) (nodeAt ns i .length) ≡ false
+
+-- the number does not hang on the labels: equal or empty ones make no difference
+abbrev pub LabelsAreInk : Chart → Type 0
+LabelsAreInk c = LabelsInRange (c .nodes) → chartNumber c ≡ chartNumber (unlabelled c)
