@@ -15,14 +15,14 @@ use Rattle.chart.specs.Values.{linkAt, standsAt}
 use Rattle.routes.specs.All.{allRoutes}
 use Rattle.routes.proofs.Promises.{off-links, twin-links}
 use Rattle.chart_net.specs.Net.{stationAt, placeIn, crossed, across, placed, farIn, chartNet, start, routesOf}
-use Rattle.chart_net.specs.Promises.{RoutesKept, AcceptedWhole, ByStation, OffLink, TwinLink}
+use Rattle.chart_net.specs.Promises.{RoutesKept, AcceptedEnds, ByStation, OffLink, TwinLink}
 use Rattle.chart_net.proofs.Kept as kept
 
 pub routes-kept : RoutesKept
 routes-kept c ok = kept.routes-kept c ok
 
-pub accepted-whole : AcceptedWhole
-accepted-whole c ok = record { sound = kept.chart-sound c ok; begins = kept.start-below c ok }
+pub accepted-ends : AcceptedEnds
+accepted-ends c ok = record { sound = kept.chart-sound c ok; begins = kept.start-below c ok }
 
 -- ---- labels are not looked at
 

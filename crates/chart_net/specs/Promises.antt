@@ -17,12 +17,12 @@ abbrev pub RoutesKept : Type 0
 RoutesKept = (c : Chart) → Accepted c → routesKept c ≡ routesOf c
 
 -- in an accepted chart every far end is a node, and the question begins at one
-pub record Whole (c : Chart) : Type 0 where
+pub record EndsAtNodes (c : Chart) : Type 0 where
   pub sound : Sound (chartNet c)
   pub begins : start c < c .nodes .count
 
-abbrev pub AcceptedWhole : Type 0
-AcceptedWhole = (c : Chart) → Accepted c → Whole c
+abbrev pub AcceptedEnds : Type 0
+AcceptedEnds = (c : Chart) → Accepted c → EndsAtNodes c
 
 -- two charts that differ in their labels alone
 pub record LabelsAside (c d : Chart) : Type 0 where

@@ -14,7 +14,7 @@ use Rattle.routes.proofs.Least.{first-least, next-least}
 use Rattle.routes.specs.Route.{Net, Sound, only, IsRoute, arrived, passed, RouteFrom, NoneTwice}
 use Rattle.routes.specs.All.{allFrom, allRoutes, Answer, firstOf, sameLinks, nextOf}
 use Rattle.routes.specs.Steps.{isRoute}
-use Rattle.routes.specs.Promises.{Gives, ended, another, EveryRoute, ListGivesAll, NoOther, FirstLeast, NextLeast, Short, OffLinks, TwinLinks}
+use Rattle.routes.specs.Promises.{Gives, ended, another, EveryRoute, ListGivesAll, NoOther, FirstLeast, NextLeast, ShortRoutes, OffLinks, TwinLinks}
 
 pub list-gives-all : ListGivesAll
 unfolding allRoutes
@@ -76,8 +76,8 @@ pub next-is-least : NextLeast
 unfolding allRoutes
 next-is-least G sound a r p = next-least G sound a (only a) r p
 
-pub short : Short
-short G sound a h r p = route-short G sound a h r p
+pub short-routes : ShortRoutes
+short-routes G sound a h r p = route-short G sound a h r p
 
 -- ---- off links and twin links
 

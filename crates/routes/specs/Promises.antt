@@ -29,12 +29,12 @@ abbrev pub ListGivesAll : Type 0
 ListGivesAll = (G : Net) → Sound G → (a : ℕ) → EveryRoute G a (firstOf (allRoutes G a)) (nextOf (allRoutes G a))
 
 -- and they alone: the statement settles every answer
-pub record Settled (G : Net) (a : ℕ) (first : Answer) (next : List ℕ → Answer) : Type 0 where
+pub record TheseAnswers (G : Net) (a : ℕ) (first : Answer) (next : List ℕ → Answer) : Type 0 where
   pub first-is : first ≡ firstOf (allRoutes G a)
   pub next-is : (r : List ℕ) → next r ≡ nextOf (allRoutes G a) r
 
 abbrev pub NoOther : Type 0
-NoOther = (G : Net) → Sound G → (a : ℕ) (first : Answer) (next : List ℕ → Answer) → EveryRoute G a first next → Settled G a first next
+NoOther = (G : Net) → Sound G → (a : ℕ) (first : Answer) (next : List ℕ → Answer) → EveryRoute G a first next → TheseAnswers G a first next
 
 -- s is the least of those that P holds of
 pub record LeastOf (P : List ℕ → Type 0) (s : List ℕ) : Type 0 where
@@ -55,8 +55,8 @@ abbrev pub NextLeast : Type 0
 NextLeast = (G : Net) → Sound G → (a : ℕ) (r : List ℕ) → RouteFrom G a r → Says (λ q. RouteFrom G a q × Before r q) (nextOf (allRoutes G a) r)
 
 -- a route has fewer links than there are nodes: with 16 nodes at most 15
-abbrev pub Short : Type 0
-Short = (G : Net) → Sound G → (a : ℕ) → a < G .nodes → (r : List ℕ) → RouteFrom G a r → length r < G .nodes
+abbrev pub ShortRoutes : Type 0
+ShortRoutes = (G : Net) → Sound G → (a : ℕ) → a < G .nodes → (r : List ℕ) → RouteFrom G a r → length r < G .nodes
 
 -- a link that cannot be passed from any node, as one that is off, is in no route
 abbrev pub OffLinks : Type 0

@@ -11,7 +11,7 @@ use Rattle.search.proofs.Telling.{Promised, as-told, refusal, refusing, places-
 use Rattle.chart_net.specs.Net.{start, routesOf}
 use Rattle.chart_net.specs.Arrays.{placeFor, endsFor, waysFor, routesKept}
 use Rattle.chart_net.proofs.Places.{place-few}
-use Rattle.chart_net.proofs.Promises.{routes-kept, accepted-whole}
+use Rattle.chart_net.proofs.Promises.{routes-kept, accepted-ends}
 use Rattle.trace.specs.Trace.{firstRefusalOf, nextRefusalOf, traceFirst, traceNext}
 
 module _ (c : Chart) where
@@ -49,7 +49,7 @@ module _ (c : Chart) where
     places-kept : placesNumber (c .links .count) (placeFor (c .nodes) (c .from)) ≡ 0
     unfolding start
     places-kept =
-        let h = accepted-whole c yes .begins in
+        let h = accepted-ends c yes .begins in
         let k = yes .few-nodes in
         let p : placeFor (c .nodes) (c .from) < 16 = rw (place-few (c .nodes) (c .from) (yes .few-nodes)) (omega arith) in
         places-right (c .links .count) (placeFor (c .nodes) (c .from)) (yes .few-links) p

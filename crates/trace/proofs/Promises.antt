@@ -17,7 +17,7 @@ use Rattle.routes.specs.Route.{only}
 use Rattle.routes.specs.All.{allRoutes, Answer, route, firstOf, nextOf}
 use Rattle.routes.specs.Promises.{Gives}
 use Rattle.routes.specs.Promises as theory
-use Rattle.routes.proofs.Promises.{short}
+use Rattle.routes.proofs.Promises.{short-routes}
 use Rattle.routes.proofs.Next.{next-absent, gives-all}
 use Rattle.routes.proofs.Order.{all-increasing, all-once}
 use Rattle.routes.proofs.Laws.{all-are, all-here, all-sound}
@@ -26,9 +26,9 @@ use Rattle.search.specs.Answers.{Told, told, answerNumber, answerRoute}
 use Rattle.search.proofs.Telling.{first-room, next-room, next-long}
 use Rattle.chart_net.specs.Net.{placeIn, chartNet, start, routesOf}
 use Rattle.chart_net.specs.Promises.{IsRouteOf}
-use Rattle.chart_net.proofs.Promises.{accepted-whole}
+use Rattle.chart_net.proofs.Promises.{accepted-ends}
 use Rattle.trace.specs.Trace.{firstRefusalOf, nextRefusalOf, traceFirst, traceNext}
-use Rattle.trace.specs.Promises.{Calls, ended, another, RoutesTraced, EveryRouteTraced}
+use Rattle.trace.specs.Promises.{GoesThrough, ended, another, RoutesTraced, EveryRouteTraced}
 
 -- what an answer tells on a buffer that is long enough
 abbrev given : Answer → List ℕ → Told
@@ -51,14 +51,14 @@ module _ (c : Chart) (ok : chartNumber c ≡ 0) where
   few : (r : List ℕ) → IsRouteOf c r → length r ≤ 15
   unfolding chartNet
   few r p =
-      let w = accepted-whole c (accepted c ok) in
-      let h : length r < c .nodes .count = short (chartNet c) (w .sound) (start c) (w .begins) r p in
+      let w = accepted-ends c (accepted c ok) in
+      let h : length r < c .nodes .count = short-routes (chartNet c) (w .sound) (start c) (w .begins) r p in
       let k = accepted c ok .few-nodes in
       omega arith
 
   -- the calls go along the list
   calls : {a : Answer} {l : List (List ℕ)} → Gives (nextOf (routesOf c)) a l → ((r : List ℕ) → List·Memᴰ r l → length r ≤ 15)
-      → (buf : List ℕ) → 15 ≤ length buf → Calls c (given a buf) l
+      → (buf : List ℕ) → 15 ≤ length buf → GoesThrough c (given a buf) l
   unfolding told unlessRefused answerNumber answerRoute
   calls theory.ended s buf h = ended refl
   calls (theory.another {r = r} {l = l} g) s buf h =
@@ -67,8 +67,8 @@ module _ (c : Chart) (ok : chartNumber c ≡ 0) where
       let t : take (length r) b ≡ r = taken-front buf r (length r) refl (omega arith) in
       let m : 15 ≤ length b = rw length-sets h in
       let e : given (nextOf (routesOf c) r) b ≡ traceNext c b (length r) = sym (taken-next b (length r) m k ∙ ap (λ (x : List ℕ). given (nextOf (routesOf c) x) b) t) in
-      let next = subst (λ (o : Told). Calls c o l) e (calls g (λ q n. s q (List·Memᴰ·tail n)) b m) in
-      subst (λ (x : List ℕ). Calls c (given (route r) buf) (x ∷ l)) t (another refl next)
+      let next = subst (λ (o : Told). GoesThrough c o l) e (calls g (λ q n. s q (List·Memᴰ·tail n)) b m) in
+      subst (λ (x : List ℕ). GoesThrough c (given (route r) buf) (x ∷ l)) t (another refl next)
 
   not-known : (b : List ℕ) (n : ℕ) → 15 ≤ length b → (IsRouteOf c (take n b) → ⊥) → traceNext c b n ≡ record { answer = Refused 41; bytes = b }
   unfolding routesOf allRoutes told unlessRefused answerNumber
@@ -89,10 +89,10 @@ module _ (c : Chart) (ok : chartNumber c ≡ 0) where
   traced buf h =
       let G = chartNet c in
       let a = start c in
-      let are = all-are G (accepted-whole c (accepted c ok) .sound) a (only a) in
+      let are = all-are G (accepted-ends c (accepted c ok) .sound) a (only a) in
       record {
         all = routesOf c;
-        given = subst (λ (o : Told). Calls c o (routesOf c)) (sym (taken-first buf h)) (calls (gives-all G a (only a)) (λ r m. few r (are r .0 m)) buf h);
+        given = subst (λ (o : Told). GoesThrough c o (routesOf c)) (sym (taken-first buf h)) (calls (gives-all G a (only a)) (λ r m. few r (are r .0 m)) buf h);
         each = are;
         once = all-once G a (only a);
         ordered = all-increasing G a (only a);

@@ -29,14 +29,14 @@ pub data Ask : Type 0 where
   after : List ℕ → Ask
 
 -- what is told: a route, or a refusal's number
-pub data Reply : Type 0 where
-  route : List ℕ → Reply
-  number : ℕ → Reply
+pub data Meant : Type 0 where
+  route : List ℕ → Meant
+  number : ℕ → Meant
 
 pub record Case : Type 0 where
   pub chart : Chart
   pub ask : Ask
-  pub reply : Reply
+  pub meant : Meant
 
 -- the lent buffer: the route that is given, and zeros
 abbrev pub lent : Ask → List ℕ
@@ -47,12 +47,12 @@ abbrev pub asked : Chart → Ask → Told
 asked c first = traceFirst c (lent first)
 asked c (after r) = traceNext c (lent (after r)) (length r)
 
-abbrev pub meant : List ℕ → Reply → Told
-meant buf (route r) = record { answer = Route (length r); bytes = sets buf 0 r }
-meant buf (number k) = record { answer = Refused k; bytes = buf }
+abbrev pub toldOf : List ℕ → Meant → Told
+toldOf buf (route r) = record { answer = Route (length r); bytes = sets buf 0 r }
+toldOf buf (number k) = record { answer = Refused k; bytes = buf }
 
-abbrev pub case : Chart → Ask → Reply → Case
-case c a t = record { chart = c; ask = a; reply = t }
+abbrev pub case : Chart → Ask → Meant → Case
+case c a t = record { chart = c; ask = a; meant = t }
 
 abbrev pub table : List Case
 table =
@@ -72,7 +72,7 @@ table =
 
 abbrev pub Holds : List Case → Type 0
 Holds [] = Unit {0}
-Holds (k ∷ ks) = (asked (k .chart) (k .ask) ≡ meant (lent (k .ask)) (k .reply)) × Holds ks
+Holds (k ∷ ks) = (asked (k .chart) (k .ask) ≡ toldOf (lent (k .ask)) (k .meant)) × Holds ks
 
 pub cases : Holds table
 unfolding sample chartNumber valuesNumber firstNumber nodeNumberAt linkNumberAt nodeNumber linkNumber questionNumber bothWritten eitherUsed nodeInRange linkInRange endInRange stationInRange inRange sameStation sameAddress written used standsAt endsAt isEnd nodeAt linkAt strayByte anyBelow firstBelow elementAt unlessRefused also only upFrom linksFrom via over tries routes tally unmet allFrom allRoutes firstOf sameLinks nextOf answerNumber answerRoute told firstRefusal nextRefusal stationAt placeIn crossed farIn chartNet start routesOf firstRefusalOf nextRefusalOf traceFirst traceNext

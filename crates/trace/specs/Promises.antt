@@ -15,15 +15,15 @@ use Rattle.chart_net.specs.Promises.{IsRouteOf}
 use Rattle.trace.specs.Trace.{traceFirst, traceNext}
 
 -- what a call tells, and then each next one in the buffer as it was left: 43 ends it, else a route and what comes after it
-pub data Calls (c : Chart) : Told → List (List ℕ) → Type 0 where
-  ended : {t : Told} → t .answer ≡ Refused 43 → Calls c t []
-  another : {t : Told} {n : ℕ} {l : List (List ℕ)} → t .answer ≡ Route n → Calls c (traceNext c (t .bytes) n) l → Calls c t (take n (t .bytes) ∷ l)
+pub data GoesThrough (c : Chart) : Told → List (List ℕ) → Type 0 where
+  ended : {t : Told} → t .answer ≡ Refused 43 → GoesThrough c t []
+  another : {t : Told} {n : ℕ} {l : List (List ℕ)} → t .answer ≡ Route n → GoesThrough c (traceNext c (t .bytes) n) l → GoesThrough c t (take n (t .bytes) ∷ l)
 
 -- the calls on a buffer give every route, each once, in order; from a node to itself the empty one alone; a route has at most 15 links; what is no
 -- route is 41 and leaves the buffer as it was
 pub record RoutesTraced (c : Chart) (buf : List ℕ) : Type 0 where
   pub all : List (List ℕ)
-  pub given : Calls c (traceFirst c buf) all
+  pub given : GoesThrough c (traceFirst c buf) all
   pub each : (r : List ℕ) → List·Memᴰ r all ↔ IsRouteOf c r
   pub once : NoneTwice all
   pub ordered : Increasing all
