@@ -171,7 +171,7 @@ module _ (c : Chart) (ok : Accepted c) where
   unfolding chartNet
   alike = record { links = refl; goal = sym (place-few ns (c .to) (ok .few-nodes)); far = λ i a h k. far-same i a h k }
 
-  -- THE theorem: what the trace keeps has the chart's routes
+  -- what the trace keeps has the chart's routes
   pub routes-kept : routesKept c ≡ routesOf c
   unfolding routesKept routesIn routesOf start chartNet
   routes-kept =

@@ -28,11 +28,12 @@ pub record EveryRoute (G : Net) (a : ℕ) (first : Answer) (next : List ℕ → 
 abbrev pub ListGivesAll : Type 0
 ListGivesAll = (G : Net) → Sound G → (a : ℕ) → EveryRoute G a (firstOf (allRoutes G a)) (nextOf (allRoutes G a))
 
--- and they alone: the statement settles every answer
+-- these answers are the list's own
 pub record TheseAnswers (G : Net) (a : ℕ) (first : Answer) (next : List ℕ → Answer) : Type 0 where
   pub first-is : first ≡ firstOf (allRoutes G a)
   pub next-is : (r : List ℕ) → next r ≡ nextOf (allRoutes G a) r
 
+-- no other answers give every route so
 abbrev pub NoOther : Type 0
 NoOther = (G : Net) → Sound G → (a : ℕ) (first : Answer) (next : List ℕ → Answer) → EveryRoute G a first next → TheseAnswers G a first next
 
@@ -47,10 +48,11 @@ Says P (route s) = LeastOf P s
 Says P noMore = (q : List ℕ) → P q → ⊥
 Says P noRoute = ⊥
 
--- the first is the least route; the next after a route is the least of those that come after it
+-- the first is the least route
 abbrev pub FirstLeast : Type 0
 FirstLeast = (G : Net) → Sound G → (a : ℕ) → Says (RouteFrom G a) (firstOf (allRoutes G a))
 
+-- the next after a route is the least of those that come after it
 abbrev pub NextLeast : Type 0
 NextLeast = (G : Net) → Sound G → (a : ℕ) (r : List ℕ) → RouteFrom G a r → Says (λ q. RouteFrom G a q × Before r q) (nextOf (allRoutes G a) r)
 
@@ -62,11 +64,12 @@ ShortRoutes = (G : Net) → Sound G → (a : ℕ) → a < G .nodes → (r : List
 abbrev pub OffLinks : Type 0
 OffLinks = (G : Net) (a i : ℕ) → ((n : ℕ) → G .far i n ≡ none) → (r : List ℕ) → RouteFrom G a r → List·Memᴰ i r → ⊥
 
--- two links between the same nodes are two: where one is in a route, the other in its place makes another route
+-- s is a route, and another than r
 pub record TwoRoutes (G : Net) (a : ℕ) (r s : List ℕ) : Type 0 where
   pub route : RouteFrom G a s
   pub other : r ≡ s → ⊥
 
+-- two links between the same nodes are two: where one is in a route, the other in its place makes another route
 abbrev pub TwinLinks : Type 0
 TwinLinks = (G : Net) (a i j : ℕ) → ((n : ℕ) → G .far i n ≡ G .far j n) → j < G .links → (i ≡ j → ⊥) → (p r : List ℕ)
     → RouteFrom G a (p ++ (i ∷ r)) → TwoRoutes G a (p ++ (i ∷ r)) (p ++ (j ∷ r))

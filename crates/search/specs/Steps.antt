@@ -33,6 +33,7 @@ unfoldable pub wayFrom : (ℕ → ℕ → Far) → List Bool → ℕ → ℕ →
 wayFrom step met n i zero = End
 wayFrom step met n i (suc k) = orWay i (ifOpen met (step i n)) (wayFrom step met n (suc i) k)
 
+-- n zeros
 abbrev pub zeros : ℕ → List ℕ
 zeros n = replicate n 0
 

@@ -33,6 +33,7 @@ pub data Meant : Type 0 where
   route : List ℕ → Meant
   number : ℕ → Meant
 
+-- a case: a chart, what is asked of it and what it should tell
 pub record Case : Type 0 where
   pub chart : Chart
   pub ask : Ask
@@ -43,17 +44,21 @@ abbrev pub lent : Ask → List ℕ
 lent first = replicate 15 0
 lent (after r) = r ++ replicate (15 - length r) 0
 
+-- what the call tells of it
 abbrev pub asked : Chart → Ask → Told
 asked c first = traceFirst c (lent first)
 asked c (after r) = traceNext c (lent (after r)) (length r)
 
+-- what it should: the route at the start of the buffer, or the number and the buffer as it was
 abbrev pub toldOf : List ℕ → Meant → Told
 toldOf buf (route r) = record { answer = Route (length r); bytes = sets buf 0 r }
 toldOf buf (number k) = record { answer = Refused k; bytes = buf }
 
+-- one line of the table
 abbrev pub case : Chart → Ask → Meant → Case
 case c a t = record { chart = c; ask = a; meant = t }
 
+-- P1 to P6
 abbrev pub table : List Case
 table =
     case S first (route (0 ∷ 2 ∷ []))  -- P1: S lists exactly its four routes; its nodes 1 and 2 have one label
@@ -70,6 +75,7 @@ table =
     ∷ case S (after (0 ∷ 1 ∷ [])) (number 41)  -- P6
     ∷ []
 
+-- each case tells what it should
 abbrev pub Holds : List Case → Type 0
 Holds [] = Unit {0}
 Holds (k ∷ ks) = (asked (k .chart) (k .ask) ≡ toldOf (lent (k .ask)) (k .meant)) × Holds ks
@@ -84,6 +90,7 @@ cases = (refl, (refl, (refl, (refl, (refl, (refl, (refl, (refl, (refl, (refl, (r
 abbrev pub labelPlace : Nodes → ℕ → ℕ
 labelPlace ns a = firstBelow (λ i. sameLinks (nodeAt ns i .label) (nodeAt ns a .label)) (ns .count)
 
+-- a far end, taken for the first node with its label
 abbrev pub relabelled : Nodes → Option ℕ → Option ℕ
 relabelled ns none = none
 relabelled ns (some f) = some (labelPlace ns f)

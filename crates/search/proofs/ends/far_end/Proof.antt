@@ -1,3 +1,4 @@
+-- `search::ends::far_end` meets its contract: past the last link there is none, else it is the link's other end.
 use mathlib.Core.Path.{sym, _∙_}
 use borrow.Author.Needs.{needs}
 use Rattle.search.proofs.Leading.{far-in, far-out}

@@ -1,3 +1,4 @@
+-- `search::ends::open_end` meets its contract: the far end's own flag is asked.
 use mathlib.Core.Path.{sym, ap, _∙_}
 use borrow.Author.Needs.{needs}
 use Rattle.search.specs.Steps.{ifOpen}

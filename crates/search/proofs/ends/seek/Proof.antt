@@ -1,3 +1,4 @@
+-- `search::ends::seek` meets its contract. The loop's invariant: the first way from i on is the first from k on.
 use mathlib.Core.Path.{_≡_, refl, sym, ap, _∙_}
 use mathlib.Core.Bool.{true, false}
 use mathlib.Core.Logic.{⊎-elim}

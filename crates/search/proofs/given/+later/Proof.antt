@@ -1,4 +1,4 @@
--- The given route is walked along; on the way back, at each place, the links after its own are tried.
+-- `search::given::later` meets its contract: the given route is walked along; on the way back, at each place, the links after its own are tried.
 use mathlib.Core.Path.{sym, ap, _∙_}
 use mathlib.Core.Bool.{true}
 use Prim.Native.Nat.{ℕ, _+_, _-_, _<_}

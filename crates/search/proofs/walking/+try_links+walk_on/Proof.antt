@@ -1,3 +1,4 @@
+-- `search::walking::try_links` and `walk_on` meet their contracts: the least route goes by the first link that leads on, or by a later one. Nodes not met fall first, then the links left.
 use mathlib.Core.Path.{refl, sym, ap, _∙_}
 use mathlib.Core.Bool.{true}
 use Prim.Native.Nat.{ℕ, _+_, _-_, _*_, _<_}
