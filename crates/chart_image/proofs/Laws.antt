@@ -25,7 +25,7 @@ use Rattle.chart_read.specs.declared.ChartRead.{ChartRead}
 use Rattle.chart_read.specs.Reading.{chartReadOf}
 use Rattle.chart_write.specs.Writing.{linkBody, chartBytes, chartRefusal, chartAfter}
 use Rattle.chart_write.proofs.Promises.{place-near}
-use Rattle.chart_image.specs.Chart.{nodeImage, chartImage, readNumberFor, placeFor, imageAfter, chartIn, writeNumberFor, writtenFor, chartAfterFor}
+use Rattle.chart_image.specs.Chart.{nodeImage, chartImage, readNumberFor, fieldPlace, imageAfter, chartIn, writeNumberFor, writtenFor, chartAfterFor}
 
 pub length-link : (l : Link) → length (linkBody l) ≡ 9
 unfolding linkBody
@@ -73,13 +73,13 @@ chart-stored b c =
 module _ (bytes b : List ℕ) {r : ChartRead} (g : r ≡ chartReadOf bytes) where
   -- what C gets: the number k, the place p and the image o
   abbrev pub Reads : ℕ → ℕ → List ℕ → Type 0
-  Reads k p o = (k ≡ readNumberFor bytes (length b)) × (p ≡ placeFor bytes) × (o ≡ imageAfter bytes b)
+  Reads k p o = (k ≡ readNumberFor bytes (length b)) × (p ≡ fieldPlace bytes) × (o ≡ imageAfter bytes b)
 
   pub near : Bytes bytes → r .place ≤ 1065
   near h = rw g (place-near bytes h)
 
-  placed : r .place ≡ placeFor bytes
-  unfolding placeFor
+  placed : r .place ≡ fieldPlace bytes
+  unfolding fieldPlace
   placed = ap (λ (x : ChartRead). x .place) g
 
   pub read-refused : (r .number ≡ 0 → ⊥) → Reads (r .number) (r .place) b

@@ -47,8 +47,8 @@ unfoldable pub readNumberFor : List ℕ → ℕ → ℕ
 readNumberFor bytes m = orElse (chartReadOf bytes .number) (refuse 10 (ltb m chartImageSize) 0)
 
 -- the place of the field that the chart's number refuses, else 0
-unfoldable pub placeFor : List ℕ → ℕ
-placeFor bytes = chartReadOf bytes .place
+unfoldable pub fieldPlace : List ℕ → ℕ
+fieldPlace bytes = chartReadOf bytes .place
 
 -- the image after the call: a refusal leaves it, else its first 888 bytes are written
 unfoldable pub imageAfter : List ℕ → List ℕ → List ℕ

@@ -4,7 +4,7 @@ use reading::chart_in;
 use storing::put_chart;
 ghost use mathlib.Core.Path.{_≡_};
 ghost use lib.ListN.{length};
-ghost use Rattle.chart_image.specs.Chart.{readNumberFor, placeFor, imageAfter, writeNumberFor, writtenFor, chartAfterFor};
+ghost use Rattle.chart_image.specs.Chart.{readNumberFor, fieldPlace, imageAfter, writeNumberFor, writtenFor, chartAfterFor};
 
 mod reading;
 mod storing;
@@ -13,7 +13,7 @@ const IMAGE_SIZE: usize = 888;
 
 // Reads a chart, and writes its image; `place` is where the field begins that the chart's number refuses, else 0.
 pub fn read_into(chart: &[u8], image: &mut [u8], place: &mut u16) -> u8
-    ensures { λ r. ⌜ (r ≡ readNumberFor (now (chart .entry)) (length (now (image .entry)))) × (now (place .exit) ≡ placeFor (now (chart .entry))) × (now (image .exit) ≡ imageAfter (now (chart .entry)) (now (image .entry))) ⌝ }
+    ensures { λ r. ⌜ (r ≡ readNumberFor (now (chart .entry)) (length (now (image .entry)))) × (now (place .exit) ≡ fieldPlace (now (chart .entry))) × (now (image .exit) ≡ imageAfter (now (chart .entry)) (now (image .entry))) ⌝ }
 {
     let r = chart_read::read_chart(chart);
     *place = r.place as u16;

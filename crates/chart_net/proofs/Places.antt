@@ -1,0 +1,87 @@
+-- Places by station: in a chart that writes no node twice, a node's own station has its place, and no other has.
+use Prim.Native.Nat.{ℕ, _<_, _≤_}
+use mathlib.Core.Path.{_≡_, refl, sym, ap, _∙_}
+use mathlib.Core.Bool.{true, false}
+use native.Mathlib.Omega.{arith}
+use borrow.Author.Tests.{eqb-true, eq-eqb, lt-ltb, le-ltb}
+use lib.Dec.{eqb}
+use Rattle.lists.specs.Places.{anyBelow, firstBelow}
+use Rattle.lists.proofs.Bools.{and-left, and-right, both-same}
+use Rattle.lists.proofs.Places.{first-stop, first-found, first-none, first-below}
+use Rattle.address.specs.declared.Station.{Station}
+use Rattle.address.specs.Address.{sameStation}
+use Rattle.chart.specs.declared.Nodes.{Nodes}
+use Rattle.chart.specs.Values.{nodeAt, standsAt, written}
+use Rattle.chart_write.specs.Numbers.{nodesBefore}
+use Rattle.chart_net.specs.Net.{stationAt, placeIn}
+use Rattle.chart_net.specs.Arrays.{placeFor}
+
+-- ---- stations that are the same are one
+
+station-eq : (s t : Station) → sameStation s t ≡ true → s ≡ t
+unfolding sameStation
+station-eq s t e =
+    let x = eqb-true (s .brigade) (t .brigade) (and-left (eqb (s .brigade) (t .brigade)) _ e) in
+    let y = eqb-true (s .node .0) (t .node .0) (and-right (eqb (s .brigade) (t .brigade)) _ e) in
+    λ i. record { brigade = x i; node = record { 0 = y i } }
+
+station-refl : (s : Station) → sameStation s s ≡ true
+unfolding sameStation
+station-refl s = rw (eq-eqb (s .brigade) (s .brigade) refl, eq-eqb (s .node .0) (s .node .0) refl)
+
+station-sym : (s t : Station) → sameStation s t ≡ sameStation t s
+station-sym s t = both-same (sameStation s t) (sameStation t s) (λ e. turn s t e) (λ e. turn t s e)
+  where
+    turn : (s t : Station) → sameStation s t ≡ true → sameStation t s ≡ true
+    turn s t e = ap (sameStation t) (station-eq s t e) ∙ station-refl t
+
+-- ---- places
+
+module _ (ns : Nodes) (s : Station) where
+  -- a search that stops, and one that does not
+  pub place-here : (i : ℕ) → i < ns .count → anyBelow (standsAt ns s) i ≡ false → standsAt ns s i ≡ true → i ≡ placeIn ns s
+  unfolding placeIn
+  place-here i h n e = sym (first-stop (standsAt ns s) (ns .count) i (record { below = h; passes = e; none-before = n }))
+
+  pub place-none : (i : ℕ) → i ≡ ns .count → anyBelow (standsAt ns s) i ≡ false → i ≡ placeIn ns s
+  unfolding placeIn
+  place-none i e n =
+      let m : anyBelow (standsAt ns s) (ns .count) ≡ false = ap (anyBelow (standsAt ns s)) (sym e) ∙ n in
+      e ∙ sym (first-none (standsAt ns s) (ns .count) m)
+
+  -- a station that is written has a place among the nodes
+  pub place-written : written ns s ≡ true → placeIn ns s < ns .count
+  unfolding written placeIn
+  place-written e = first-found (standsAt ns s) (ns .count) e .below
+
+  -- where the nodes are not too many
+  pub place-few : ns .count ≤ 16 → placeFor ns s ≡ placeIn ns s
+  unfolding placeFor
+  place-few h = rw (le-ltb 16 (ns .count) h)
+
+  pub place-many : 16 < ns .count → 16 ≡ placeFor ns s
+  unfolding placeFor
+  place-many h = rw (lt-ltb 16 (ns .count) h)
+
+module _ (ns : Nodes) (once : (i : ℕ) → i < ns .count → written (nodesBefore ns i) (nodeAt ns i .station) ≡ false) where
+  -- each node has its own place
+  own-place : (a : ℕ) → a < ns .count → placeIn ns (stationAt ns a) ≡ a
+  unfolding written standsAt nodeAt stationAt
+  own-place a h = sym (place-here ns (stationAt ns a) a h (once a h) (station-refl (stationAt ns a)))
+
+  -- the node at a station's place stands there
+  stands-there : (s : Station) (k : ℕ) → placeIn ns s ≡ k → k < ns .count → sameStation (stationAt ns k) s ≡ true
+  unfolding placeIn standsAt stationAt
+  stands-there s k q l =
+      let m : firstBelow (standsAt ns s) (ns .count) < ns .count = omega arith in
+      ap (standsAt ns s) (sym q) ∙ first-found (standsAt ns s) (ns .count) (first-below (standsAt ns s) (ns .count) m) .passes
+
+  -- a station has the place of the node that stands at it, and no other
+  pub at-place : (s : Station) (a : ℕ) → a < ns .count → sameStation s (stationAt ns a) ≡ eqb (placeIn ns s) a
+  at-place s a h = both-same (sameStation s (stationAt ns a)) (eqb (placeIn ns s) a) to from
+    where
+      to : sameStation s (stationAt ns a) ≡ true → eqb (placeIn ns s) a ≡ true
+      to e = eq-eqb (placeIn ns s) a (ap (placeIn ns) (station-eq s (stationAt ns a) e) ∙ own-place a h)
+
+      from : eqb (placeIn ns s) a ≡ true → sameStation s (stationAt ns a) ≡ true
+      from e = station-sym s (stationAt ns a) ∙ stands-there s a (eqb-true (placeIn ns s) a e) h

@@ -1,0 +1,97 @@
+-- The theorems of specs/Promises.antt: by what a chart's links lead to.
+use Prim.Native.Nat.{ℕ}
+use mathlib.Core.Path.{_≡_, refl, ap, fun-ext, _∙_}
+use mathlib.Core.Bool.{Bool, true, false, cond}
+use mathlib.Core.Option.{Option, none, some}
+use borrow.Author.Tests.{lt-ltb}
+use lib.Dec.{ltb}
+use Rattle.lists.specs.Places.{firstBelow}
+use Rattle.address.specs.declared.Station.{Station}
+use Rattle.address.specs.Address.{stationOf, sameStation}
+use Rattle.chart.specs.declared.Link.{Link}
+use Rattle.chart.specs.declared.Nodes.{Nodes}
+use Rattle.chart.specs.declared.Links.{Links}
+use Rattle.chart.specs.Values.{linkAt, standsAt}
+use Rattle.routes.specs.All.{allRoutes}
+use Rattle.routes.proofs.Promises.{off-links, twin-links}
+use Rattle.chart_net.specs.Net.{stationAt, placeIn, crossed, across, placed, farIn, chartNet, start, routesOf}
+use Rattle.chart_net.specs.Promises.{RoutesKept, AcceptedEnds, ByStation, OffLink, TwinLink}
+use Rattle.chart_net.proofs.Kept as kept
+
+pub routes-kept : RoutesKept
+routes-kept c ok = kept.routes-kept c ok
+
+pub accepted-ends : AcceptedEnds
+accepted-ends c ok = record { sound = kept.chart-sound c ok; begins = kept.start-below c ok }
+
+-- ---- labels are not looked at
+
+module _ (ns ms : Nodes) (count : ns .count ≡ ms .count) (stations : (i : ℕ) → stationAt ns i ≡ stationAt ms i) where
+  place-same : (s : Station) → placeIn ns s ≡ placeIn ms s
+  unfolding placeIn standsAt stationAt
+  place-same s =
+      let p : standsAt ns s ≡ standsAt ms s = fun-ext (λ i. ap (λ (t : Station). sameStation t s) (stations i)) in
+      λ j. firstBelow (p j) (count j)
+
+  placed-same : (o : Option Station) → placed ns o ≡ placed ms o
+  placed-same none = refl
+  placed-same (some s) = ap some (place-same s)
+
+  far-same : (ls : Links) → farIn ns ls ≡ farIn ms ls
+  unfolding farIn
+  far-same ls =
+      fun-ext (λ i. fun-ext (λ a.
+      ap (λ (o : Option ℕ). cond (ltb i (ls .count)) o none)
+      (ap (λ (s : Station). placed ns (across (linkAt ls i) s)) (stations a) ∙ placed-same (across (linkAt ls i) (stationAt ms a)))))
+
+pub by-station : ByStation
+unfolding routesOf chartNet start
+by-station c d e =
+    let place : (s t : Station) → s ≡ t → placeIn (c .nodes) s ≡ placeIn (d .nodes) t =
+    λ s t q. place-same (c .nodes) (d .nodes) (e .count) (e .stations) s ∙ ap (placeIn (d .nodes)) q
+    in
+    let far : farIn (c .nodes) (c .links) ≡ farIn (d .nodes) (d .links) =
+    far-same (c .nodes) (d .nodes) (e .count) (e .stations) (c .links) ∙ ap (farIn (d .nodes)) (e .links)
+    in
+    let goal = place (c .to) (d .to) (e .to) in
+    let begin = place (c .from) (d .from) (e .from) in
+    let n = e .count in
+    let m = e .links in
+    λ j. allRoutes (record { nodes = n j; links = m j .count; far = far j; goal = goal j }) (begin j)
+
+-- ---- off links and twin links
+
+off-far : (ns : Nodes) (ls : Links) (i : ℕ) → linkAt ls i .on ≡ false → (n : ℕ) → farIn ns ls i n ≡ none
+unfolding farIn crossed
+off-far ns ls i off n = go (ltb i (ls .count))
+  where
+    go : (b : Bool) → cond b (placed ns (across (linkAt ls i) (stationAt ns n))) none ≡ none
+    go true = rw off
+    go false = refl
+
+pub off-link : OffLink
+unfolding chartNet
+off-link c i off r p m = off-links (chartNet c) (start c) i (off-far (c .nodes) (c .links) i off) r p m
+
+twin-across : (l k : Link) (s : Station) → stationOf (l .a) ≡ stationOf (k .a) → stationOf (l .b) ≡ stationOf (k .b) → l .on ≡ k .on → across l s ≡ across k s
+unfolding crossed
+twin-across l k s ea eb eo =
+    ap (λ (o : Bool). crossed o (sameStation (stationOf (l .a)) s) (sameStation (stationOf (l .b)) s) l) eo
+    ∙ go (k .on) (sameStation (stationOf (l .a)) s) (sameStation (stationOf (l .b)) s)
+    ∙ (λ j. crossed (k .on) (sameStation (ea j) s) (sameStation (eb j) s) k)
+  where
+    go : (o p q : Bool) → crossed o p q l ≡ crossed o p q k
+    go false p q = refl
+    go true true q = ap some eb
+    go true false true = ap some ea
+    go true false false = refl
+
+pub twin-link : TwinLink
+unfolding chartNet farIn
+twin-link c i j t hi hj ne p r q =
+    let far : (n : ℕ) → chartNet c .far i n ≡ chartNet c .far j n =
+    λ n.
+    rw (lt-ltb i (c .links .count) hi, lt-ltb j (c .links .count) hj)
+    (ap (placed (c .nodes)) (twin-across (linkAt (c .links) i) (linkAt (c .links) j) (stationAt (c .nodes) n) (t .a) (t .b) (t .on)))
+    in
+    twin-links (chartNet c) (start c) i j far hj ne p r q

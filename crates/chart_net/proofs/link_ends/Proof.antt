@@ -1,0 +1,38 @@
+-- `chart_net::link_ends` meets its contract: the place of each end's station.
+use mathlib.Core.Path.{_≡_, ap, _∙_}
+use mathlib.Core.List.{[], _∷_}
+use borrow.Author.Needs.{needs}
+use Rattle.address.specs.Address.{stationOf}
+use Rattle.chart_net.specs.Arrays.{placeFor, endPlaces}
+use Rattle.chart_net.proofs.link_ends.Statement.{statement}
+use Rattle.chart_net.proofs.link_ends.Tie as tie
+
+station-of-requires : tie.Need-station-of-requires
+station-of-requires c κs = search needs
+
+place-of-requires : tie.Need-place-of-requires
+place-of-requires c κs = search needs
+
+station-of-requires-2 : tie.Need-station-of-requires-2
+station-of-requires-2 c κs = search needs
+
+place-of-requires-2 : tie.Need-place-of-requires-2
+place-of-requires-2 c κs = search needs
+
+returns : tie.Need-returns
+unfolding endPlaces
+returns c =
+    let a = c .before .before .before .before .before .before .args in
+    let p : c .before .before .place-of .result ≡ placeFor (a .nodes) (stationOf (a .l .a)) = c .before .before .place-of .ensures ∙ ap (placeFor (a .nodes)) (c .before .before .before .station-of .ensures) in
+    let q : c .place-of2 .result ≡ placeFor (a .nodes) (stationOf (a .l .b)) = c .place-of2 .ensures ∙ ap (placeFor (a .nodes)) (c .before .station-of2 .ensures) in
+    λ i. p i ∷ q i ∷ []
+
+pub link-ends-spec : {M : Type 1} → statement M
+link-ends-spec =
+    tie.close
+    (tie.spec
+    station-of-requires
+    place-of-requires
+    station-of-requires-2
+    place-of-requires-2
+    returns)

@@ -1,0 +1,3 @@
+pub mod Net
+pub mod Arrays
+pub mod Promises

@@ -1,0 +1,62 @@
+-- The net of a chart: what its routes go over (document 01, "Routes and their order"). Nodes and links go by their places.
+use Prim.Native.Nat.{ℕ}
+use mathlib.Core.Bool.{Bool, true, false, cond}
+use mathlib.Core.Option.{Option, none, some}
+use mathlib.Core.List.{List}
+use lib.Dec.{ltb}
+use Rattle.lists.specs.Places.{firstBelow}
+use Rattle.address.specs.declared.Station.{Station}
+use Rattle.address.specs.Address.{stationOf, sameStation}
+use Rattle.chart.specs.declared.Link.{Link}
+use Rattle.chart.specs.declared.Nodes.{Nodes}
+use Rattle.chart.specs.declared.Links.{Links}
+use Rattle.chart.specs.declared.Chart.{Chart}
+use Rattle.chart.specs.Values.{nodeAt, linkAt, standsAt}
+use Rattle.routes.specs.Route.{Net}
+use Rattle.routes.specs.All.{allRoutes}
+
+-- the station of the node at a place
+unfoldable pub stationAt : Nodes → ℕ → Station
+stationAt ns a = nodeAt ns a .station
+
+-- the place of the node at this station: its brigade and node number are compared, its label is not looked at
+unfoldable pub placeIn : Nodes → Station → ℕ
+placeIn ns s = firstBelow (standsAt ns s) (ns .count)
+
+-- from one end of a link to the other, if it is on; the tests say at which end one stands
+unfoldable pub crossed : Bool → Bool → Bool → Link → Option Station
+crossed false first second l = none
+crossed true true second l = some (stationOf (l .b))
+crossed true false true l = some (stationOf (l .a))
+crossed true false false l = none
+
+-- the far end of a link for one who stands at a station: a link is passed either way
+abbrev pub across : Link → Station → Option Station
+across l s = crossed (l .on) (sameStation (stationOf (l .a)) s) (sameStation (stationOf (l .b)) s) l
+
+-- its place
+abbrev pub placed : Nodes → Option Station → Option ℕ
+placed ns none = none
+placed ns (some s) = some (placeIn ns s)
+
+-- the far end of link i for one who stands at the node at place a, if there is such a link
+unfoldable pub farIn : Nodes → Links → ℕ → ℕ → Option ℕ
+farIn ns ls i a = cond (ltb i (ls .count)) (placed ns (across (linkAt ls i) (stationAt ns a))) none
+
+-- the net of the chart
+unfoldable pub chartNet : Chart → Net
+chartNet c =
+    record {
+      nodes = c .nodes .count;
+      links = c .links .count;
+      far = farIn (c .nodes) (c .links);
+      goal = placeIn (c .nodes) (c .to);
+    }
+
+-- the place that the question begins at
+unfoldable pub start : Chart → ℕ
+start c = placeIn (c .nodes) (c .from)
+
+-- all routes that the chart's question asks for, in order
+unfoldable pub routesOf : Chart → List (List ℕ)
+routesOf c = allRoutes (chartNet c) (start c)

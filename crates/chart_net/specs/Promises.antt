@@ -1,0 +1,56 @@
+-- What the net of a chart says (document 01, "Routes and their order", "Easy slips"). proofs/Promises.antt has the theorems.
+use Prim.Native.Nat.{ℕ, _<_}
+use mathlib.Core.Path.{_≡_}
+use mathlib.Core.Bool.{false}
+use mathlib.Core.List.{List, _∷_, _++_, List·Memᴰ}
+use Rattle.address.specs.Address.{stationOf}
+use Rattle.chart.specs.declared.Chart.{Chart}
+use Rattle.chart.specs.Values.{linkAt}
+use Rattle.chart_write.specs.Numbers.{Accepted}
+use Rattle.routes.specs.Route.{Sound, RouteFrom}
+use Rattle.routes.specs.Promises.{TwoRoutes}
+use Rattle.chart_net.specs.Net.{stationAt, chartNet, start, routesOf}
+use Rattle.chart_net.specs.Arrays.{routesKept}
+
+-- the arrays that the trace keeps of an accepted chart have the chart's routes
+abbrev pub RoutesKept : Type 0
+RoutesKept = (c : Chart) → Accepted c → routesKept c ≡ routesOf c
+
+-- in an accepted chart every far end is a node, and the question begins at one
+pub record EndsAtNodes (c : Chart) : Type 0 where
+  pub sound : Sound (chartNet c)
+  pub begins : start c < c .nodes .count
+
+abbrev pub AcceptedEnds : Type 0
+AcceptedEnds = (c : Chart) → Accepted c → EndsAtNodes c
+
+-- two charts that differ in their labels alone
+pub record LabelsAside (c d : Chart) : Type 0 where
+  pub count : c .nodes .count ≡ d .nodes .count
+  pub stations : (i : ℕ) → stationAt (c .nodes) i ≡ stationAt (d .nodes) i
+  pub links : c .links ≡ d .links
+  pub from : c .from ≡ d .from
+  pub to : c .to ≡ d .to
+
+-- nodes go by their stations: such charts have the same routes
+abbrev pub ByStation : Type 0
+ByStation = (c d : Chart) → LabelsAside c d → routesOf c ≡ routesOf d
+
+-- a list of links is a route that the chart's question asks for
+abbrev pub IsRouteOf : Chart → List ℕ → Type 0
+IsRouteOf c r = RouteFrom (chartNet c) (start c) r
+
+-- a link that is off is in no route
+abbrev pub OffLink : Type 0
+OffLink = (c : Chart) (i : ℕ) → linkAt (c .links) i .on ≡ false → (r : List ℕ) → IsRouteOf c r → List·Memᴰ i r → ⊥
+
+-- the links i and j join the same two stations, and both are on or both are off
+pub record Twins (c : Chart) (i j : ℕ) : Type 0 where
+  pub a : stationOf (linkAt (c .links) i .a) ≡ stationOf (linkAt (c .links) j .a)
+  pub b : stationOf (linkAt (c .links) i .b) ≡ stationOf (linkAt (c .links) j .b)
+  pub on : linkAt (c .links) i .on ≡ linkAt (c .links) j .on
+
+-- two such links are two: where one is in a route, the other in its place makes another route
+abbrev pub TwinLink : Type 0
+TwinLink = (c : Chart) (i j : ℕ) → Twins c i j → i < c .links .count → j < c .links .count → (i ≡ j → ⊥) → (p r : List ℕ)
+    → IsRouteOf c (p ++ (i ∷ r)) → TwoRoutes (chartNet c) (start c) (p ++ (i ∷ r)) (p ++ (j ∷ r))

@@ -1,0 +1,98 @@
+// What the trace keeps of a chart by value (document 01, "Routes and their order"): the two ends of each link as node places, the way each link is
+// passed, and the places that the question names. Nodes are found by brigade and node number.
+use address::Station;
+use address::same_station;
+use address::station_of;
+use chart::Link;
+use chart::Links;
+use chart::MOST_LINKS;
+use chart::MOST_NODES;
+use chart::Nodes;
+ghost use mathlib.Core.Path.{_≡_};
+ghost use Prim.Native.Nat.{_≤_};
+ghost use Rattle.chart_net.specs.Net.{placeIn};
+ghost use Rattle.chart_net.specs.Arrays.{placeFor, endPlaces, wayOf, endsFor, waysFor};
+
+// The place of the node at a station among at most 16 nodes, or their count where there is none.
+fn find_node(nodes: Nodes, s: Station) -> u8
+    requires { ⌜ nodes .count ≤ 16 ⌝ }
+    ensures { λ r. ⌜ r ≡ placeIn nodes s ⌝ }
+{
+    let n = nodes.count as usize;
+    let mut i: usize = 0;
+    while i < n {
+        let e = nodes.items[i];
+        let t = e.station;
+        if same_station(t, s) {
+            return i as u8;
+        }
+        i += 1;
+    }
+    i as u8
+}
+
+// The place of the node at a station, or the count of the nodes where there is none; 16 where the nodes are too many.
+pub fn place_of(nodes: Nodes, s: Station) -> u8
+    ensures { λ r. ⌜ r ≡ placeFor nodes s ⌝ }
+{
+    if MOST_NODES < nodes.count {
+        return MOST_NODES;
+    }
+    find_node(nodes, s)
+}
+
+// The two ends of a link, as node places.
+fn link_ends(nodes: Nodes, l: Link) -> [u8; 2]
+    ensures { λ r. ⌜ r ≡ endPlaces nodes l ⌝ }
+{
+    let a = l.a;
+    let b = l.b;
+    let p = place_of(nodes, station_of(a));
+    let q = place_of(nodes, station_of(b));
+    [p, q]
+}
+
+// The two ends of each link, in 48 places, the unused ones zero; all of them where the links are too many.
+pub fn ends_of(nodes: Nodes, links: Links) -> [[u8; 2]; 48]
+    ensures { λ r. ⌜ r ≡ endsFor nodes links ⌝ }
+{
+    let mut ends = [[0u8; 2]; 48];
+    if MOST_LINKS < links.count {
+        return ends;
+    }
+    let n = links.count as usize;
+    let mut i: usize = 0;
+    while i < n {
+        let l = links.items[i];
+        let e = link_ends(nodes, l);
+        ends[i] = e;
+        i += 1;
+    }
+    ends
+}
+
+// The way that a link is passed: 1 both ways, 0 not at all.
+fn way_of(l: Link) -> u8
+    ensures { λ r. ⌜ r ≡ wayOf l ⌝ }
+{
+    if l.on { 1 } else { 0 }
+}
+
+// The way that each link is passed, in 48 places, the unused ones zero; all of them where the links are too many.
+pub fn ways_of(links: Links) -> [u8; 48]
+    ensures { λ r. ⌜ r ≡ waysFor links ⌝ }
+{
+    let mut ways = [0u8; 48];
+    if MOST_LINKS < links.count {
+        return ways;
+    }
+    let n = links.count as usize;
+    let mut i: usize = 0;
+    while i < n {
+        let l = links.items[i];
+        let w = way_of(l);
+        ways[i] = w;
+        i += 1;
+    }
+    ways
+}

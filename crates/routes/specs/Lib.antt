@@ -1,0 +1,4 @@
+pub mod Route
+pub mod All
+pub mod Steps
+pub mod Promises

@@ -1,0 +1,4 @@
+pub mod Leading
+pub mod Finding
+pub mod Following
+pub mod Telling

@@ -1,0 +1,193 @@
+-- What first and next answer: each refusal in its turn, and a route that was found is the one that the list of all routes has.
+use mathlib.Core.Path.{_≡_, refl, sym, ap, _∙_}
+use mathlib.Core.Bool.{Bool, false}
+use mathlib.Core.List.{List}
+use Prim.Native.Nat.{ℕ, zero, suc, _-_, _<_, _≤_}
+use native.Mathlib.Nat.{zero-add}
+use borrow.Author.Tests.{lt-ltb, le-ltb, le-leb, lt-leb}
+use lib.ListN.{length, take}
+use lib.Seq.{take-append-seam}
+use Rattle.lists.specs.Refusals.{unlessRefused}
+use Rattle.lists.proofs.Bools.{both-ways}
+use Rattle.routes.specs.All.{allFrom, allRoutes, Answer, route, noMore, noRoute, firstOf, nextOf}
+use Rattle.routes.specs.Steps.{leastFrom, isRoute}
+use Rattle.routes.proofs.Laws.{all-sound}
+use Rattle.routes.proofs.Next.{next-absent, isRoute-of}
+use Rattle.search.specs.declared.Traced.{Traced}
+use Rattle.search.specs.declared.Traced.the-variants.{Refused}
+use Rattle.search.specs.declared.Found.{Found}
+use Rattle.search.specs.Net.{net, metOf, onlyMet}
+use Rattle.search.specs.Answers.{tracedNumber, tracedLength, answerNumber, answerRoute, Told, told, firstRefusal, nextRefusal, firstRoute, nextRoute, placesNumber, routesIn, firstRefusalIn, nextRefusalIn, firstIn, nextIn}
+use Rattle.search.specs.Steps.{zeros, foundAt, handedOver}
+use Rattle.search.proofs.Leading.{only-flags}
+use Rattle.search.proofs.Finding.{first-some}
+
+-- ---- an answer's parts
+
+-- what is promised of an answer and of the bytes after it, where `whole` is both
+abbrev pub Promised : ℕ → List ℕ → List ℕ → Told → Told → Type 0
+Promised number r buf whole t =
+    (t .answer ≡ whole .answer)
+    × ((t .bytes ≡ whole .bytes) × ((tracedNumber (t .answer) ≡ number) × (tracedLength (t .answer) ≡ unlessRefused number (length r) 0)))
+
+told-number : (k : ℕ) (r buf : List ℕ) → tracedNumber (told k r buf .answer) ≡ k
+unfolding told unlessRefused
+told-number zero r buf = refl
+told-number (suc k) r buf = refl
+
+told-length : (k : ℕ) (r buf : List ℕ) → tracedLength (told k r buf .answer) ≡ unlessRefused k (length r) 0
+unfolding told unlessRefused
+told-length zero r buf = refl
+told-length (suc k) r buf = refl
+
+pub as-told : (number : ℕ) (r buf : List ℕ) (t : Told) → t ≡ told number r buf → Promised number r buf (told number r buf) t
+as-told number r buf t e =
+    let a = ap (λ (q : Told). q .answer) e in
+    (a, (ap (λ (q : Told). q .bytes) e, (ap tracedNumber a ∙ told-number number r buf, ap tracedLength a ∙ told-length number r buf)))
+
+pub carried : {number : ℕ} (r buf : List ℕ) {whole t : Told} {answer : Traced} {bytes : List ℕ} → answer ≡ t .answer → bytes ≡ t .bytes
+    → Promised number r buf whole t → Promised number r buf whole (record { answer = answer; bytes = bytes })
+carried r buf p q h = (p ∙ h .0, (q ∙ h .1 .0, (ap tracedNumber p ∙ h .1 .1 .0, ap tracedLength p ∙ h .1 .1 .1)))
+
+-- a refusal: its number, and the buffer as it was
+abbrev pub refusal : ℕ → List ℕ → Told
+refusal k buf = record { answer = Refused k; bytes = buf }
+
+pub refusing : (number k : ℕ) (r buf : List ℕ) → number ≡ suc k → Promised number r buf (told number r buf) (refusal (suc k) buf)
+unfolding told unlessRefused
+refusing number k r buf e = as-told number r buf (refusal (suc k) buf) (rw e)
+
+-- ---- what was found
+
+pub found-told : (o : Answer) (buf : List ℕ) → (o ≡ noRoute → ⊥) → handedOver (foundAt 0 o) buf ≡ told (answerNumber o) (answerRoute o) buf
+unfolding handedOver answerNumber answerRoute told unlessRefused
+found-told noMore buf n = refl
+found-told noRoute buf n = absurd (n refl)
+found-told (route r) buf n = rw (zero-add (length r), take-append-seam r (zeros (15 - length r)))
+
+-- ---- the numbers, one at a time
+
+pub too-many : (links from : ℕ) → 48 < links → placesNumber links from ≡ 26
+unfolding placesNumber
+too-many links from h = rw (lt-ltb 48 links h)
+
+pub no-place : (links from : ℕ) → links ≤ 48 → 16 ≤ from → placesNumber links from ≡ 28
+unfolding placesNumber
+no-place links from h k = rw (le-ltb 48 links h, le-leb 16 from k)
+
+pub places-right : (links from : ℕ) → links ≤ 48 → from < 16 → placesNumber links from ≡ 0
+unfolding placesNumber
+places-right links from h k = rw (le-ltb 48 links h, lt-leb 16 from k)
+
+module _ (rs : List (List ℕ)) (buf : List ℕ) where
+  pub first-short : length buf < 15 → firstRefusal rs buf ≡ 42
+  unfolding firstRefusal
+  first-short h = rw (lt-ltb (length buf) 15 h)
+
+  pub first-room : 15 ≤ length buf → firstRefusal rs buf ≡ answerNumber (firstOf rs)
+  unfolding firstRefusal
+  first-room h = rw (le-ltb (length buf) 15 h)
+
+  module _ (n : ℕ) where
+    pub next-short : length buf < 15 → nextRefusal rs buf n ≡ 42
+    unfolding nextRefusal
+    next-short h = rw (lt-ltb (length buf) 15 h)
+
+    pub next-long : 15 ≤ length buf → 15 < n → nextRefusal rs buf n ≡ 41
+    unfolding nextRefusal
+    next-long h k = rw (le-ltb (length buf) 15 h, lt-ltb 15 n k)
+
+    pub next-room : 15 ≤ length buf → n ≤ 15 → nextRefusal rs buf n ≡ answerNumber (nextOf rs (take n buf))
+    unfolding nextRefusal
+    next-room h k = rw (le-ltb (length buf) 15 h, le-ltb 15 n k)
+
+-- ---- the two calls over the arrays: each way that the code returns
+
+module _ (ends : List (List ℕ)) (ways : List ℕ) (links from to : ℕ) where
+  abbrev rs : List (List ℕ)
+  rs = routesIn ends ways links from to
+
+  -- what first and next promise of an answer and the bytes after it
+  abbrev pub FirstGives : List ℕ → Told → Type 0
+  FirstGives buf t = Promised (firstRefusalIn ends ways links from to buf) (firstRoute (routesIn ends ways links from to)) buf (firstIn ends ways links from to buf) t
+
+  abbrev pub NextGives : List ℕ → ℕ → Told → Type 0
+  NextGives buf n t = Promised (nextRefusalIn ends ways links from to buf n) (nextRoute (routesIn ends ways links from to) buf n) buf (nextIn ends ways links from to buf n) t
+
+  first-refuses : (k : ℕ) (buf : List ℕ) → firstRefusalIn ends ways links from to buf ≡ suc k → FirstGives buf (refusal (suc k) buf)
+  unfolding firstIn
+  first-refuses k buf e = refusing (firstRefusalIn ends ways links from to buf) k (firstRoute rs) buf e
+
+  next-refuses : (k : ℕ) (buf : List ℕ) (n : ℕ) → nextRefusalIn ends ways links from to buf n ≡ suc k → NextGives buf n (refusal (suc k) buf)
+  unfolding nextIn
+  next-refuses k buf n e = refusing (nextRefusalIn ends ways links from to buf n) k (nextRoute rs buf n) buf e
+
+  -- 26 and 28 come before all others
+  pub first-many : (buf : List ℕ) → 48 < links → FirstGives buf (refusal 26 buf)
+  unfolding firstRefusalIn
+  first-many buf h = first-refuses 25 buf (rw (too-many links from h))
+
+  pub next-many : (buf : List ℕ) (n : ℕ) → 48 < links → NextGives buf n (refusal 26 buf)
+  unfolding nextRefusalIn
+  next-many buf n h = next-refuses 25 buf n (rw (too-many links from h))
+
+  pub first-placeless : (buf : List ℕ) → links ≤ 48 → 16 ≤ from → FirstGives buf (refusal 28 buf)
+  unfolding firstRefusalIn
+  first-placeless buf h k = first-refuses 27 buf (rw (no-place links from h k))
+
+  pub next-placeless : (buf : List ℕ) (n : ℕ) → links ≤ 48 → 16 ≤ from → NextGives buf n (refusal 28 buf)
+  unfolding nextRefusalIn
+  next-placeless buf n h k = next-refuses 27 buf n (rw (no-place links from h k))
+
+  module _ (few : links ≤ 48) (inside : from < 16) where
+    pub first-numbered : (buf : List ℕ) → firstRefusalIn ends ways links from to buf ≡ firstRefusal rs buf
+    unfolding firstRefusalIn
+    first-numbered buf = rw (places-right links from few inside)
+
+    pub next-numbered : (buf : List ℕ) (n : ℕ) → nextRefusalIn ends ways links from to buf n ≡ nextRefusal rs buf n
+    unfolding nextRefusalIn
+    next-numbered buf n = rw (places-right links from few inside)
+
+    -- the search begins with the first node met
+    pub all-join : (met : List Bool) → met ≡ onlyMet from → allFrom (net ends ways links to) from (metOf met) ≡ rs
+    unfolding routesIn allRoutes
+    all-join met e = ap (allFrom (net ends ways links to) from) (ap metOf e ∙ only-flags from inside)
+
+    pub first-join : (met : List Bool) → met ≡ onlyMet from → leastFrom (net ends ways links to) from (metOf met) ≡ firstOf rs
+    unfolding leastFrom
+    first-join met e = ap firstOf (all-join met e)
+
+    pub not-route : (met : List Bool) (r : List ℕ) → met ≡ onlyMet from → isRoute (net ends ways links to) from (metOf met) r ≡ false → nextOf rs r ≡ noRoute
+    not-route met r e h =
+        let G = net ends ways links to in
+        ap (λ l. nextOf l r) (sym (all-join met e))
+        ∙ next-absent (allFrom G from (metOf met)) r (λ m. both-ways (isRoute-of G (all-sound G from (metOf met) r m)) h)
+
+    pub first-small : (buf : List ℕ) → length buf < 15 → FirstGives buf (refusal 42 buf)
+    first-small buf h = first-refuses 41 buf (first-numbered buf ∙ first-short rs buf h)
+
+    pub next-small : (buf : List ℕ) (n : ℕ) → length buf < 15 → NextGives buf n (refusal 42 buf)
+    next-small buf n h = next-refuses 41 buf n (next-numbered buf n ∙ next-short rs buf n h)
+
+    pub next-over : (buf : List ℕ) (n : ℕ) → 15 ≤ length buf → 15 < n → NextGives buf n (refusal 41 buf)
+    next-over buf n h k = next-refuses 40 buf n (next-numbered buf n ∙ next-long rs buf n h k)
+
+    pub next-none : (buf : List ℕ) (n : ℕ) → 15 ≤ length buf → n ≤ 15 → nextOf rs (take n buf) ≡ noRoute → NextGives buf n (refusal 41 buf)
+    unfolding answerNumber
+    next-none buf n h k e = next-refuses 40 buf n (next-numbered buf n ∙ next-room rs buf n h k ∙ ap answerNumber e)
+
+    -- what was found is told
+    pub first-told : (buf : List ℕ) (f : Found) → 15 ≤ length buf → f ≡ foundAt 0 (firstOf rs) → FirstGives buf (handedOver f buf)
+    unfolding firstIn
+    first-told buf f h e =
+        let w : firstRefusalIn ends ways links from to buf ≡ answerNumber (firstOf rs) = first-numbered buf ∙ first-room rs buf h in
+        as-told (firstRefusalIn ends ways links from to buf) (firstRoute rs) buf (handedOver f buf)
+        (ap (λ (g : Found). handedOver g buf) e ∙ found-told (firstOf rs) buf (first-some rs) ∙ ap (λ (k : ℕ). told k (firstRoute rs) buf) (sym w))
+
+    pub next-told : (buf : List ℕ) (n : ℕ) (f : Found) → 15 ≤ length buf → n ≤ 15 → (nextOf rs (take n buf) ≡ noRoute → ⊥)
+        → f ≡ foundAt 0 (nextOf rs (take n buf)) → NextGives buf n (handedOver f buf)
+    unfolding nextIn
+    next-told buf n f h k known e =
+        let w : nextRefusalIn ends ways links from to buf n ≡ answerNumber (nextOf rs (take n buf)) = next-numbered buf n ∙ next-room rs buf n h k in
+        as-told (nextRefusalIn ends ways links from to buf n) (nextRoute rs buf n) buf (handedOver f buf)
+        (ap (λ (g : Found). handedOver g buf) e ∙ found-told (nextOf rs (take n buf)) buf known ∙ ap (λ (j : ℕ). told j (nextRoute rs buf n) buf) (sym w))

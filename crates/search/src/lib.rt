@@ -1,0 +1,157 @@
+// The search for routes over what the trace keeps by value (document 01, "Routes and their order"): the two ends of each link as node places,
+// the way each link is passed, and the nodes met. It knows no chart: any arrays get an answer.
+use given::later;
+use given::route_from;
+use walking::walk_on;
+ghost use mathlib.Core.Path.{_≡_};
+ghost use Prim.Native.Nat.{_≤_, _<_};
+ghost use lib.ListN.{length, take};
+ghost use lib.Seq.{sets};
+ghost use Rattle.lists.specs.Refusals.{unlessRefused};
+ghost use Rattle.search.specs.Net.{onlyMet};
+ghost use Rattle.search.specs.Steps.{handedOver};
+ghost use Rattle.search.specs.Answers.{tracedNumber, tracedLength, firstIn, nextIn, firstRefusalIn, nextRefusalIn, routesIn, firstRoute, nextRoute};
+
+mod ends;
+mod given;
+mod walking;
+
+pub const MOST_NODES: u8 = 16;
+
+pub const MOST_LINKS: usize = 48;
+
+pub const LONGEST_ROUTE: usize = 15;
+
+// What a trace answers: the length of the route it wrote, or a refusal's number.
+pub enum Traced {
+    Route(u8),
+    Refused(u8),
+}
+
+// The node at a link's other end, or none.
+pub enum Far {
+    Node(u8),
+    None,
+}
+
+// A link that leads on and the node at its far end, or none.
+pub enum Way {
+    By(usize, u8),
+    End,
+}
+
+// A route, of which the links from some place on are filled in, with its whole length; or none.
+pub struct Found {
+    pub ok: bool,
+    pub len: usize,
+    pub route: [u8; 15],
+}
+
+// No node met but the one at place a.
+fn only_met(a: u8) -> [bool; 16]
+    requires { ⌜ a < 16 ⌝ }
+    ensures { λ m. ⌜ m ≡ onlyMet a ⌝ }
+{
+    let k = a as usize;
+    let mut met = [false; 16];
+    met[k] = true;
+    met
+}
+
+// Writes the first n links of the route at the start of the buffer, and no more.
+fn put_route(route: [u8; 15], n: usize, buf: &mut [u8])
+    requires { ⌜ n ≤ 15 ⌝ }
+    ensures { λ _. ⌜ now (buf .exit) ≡ sets (now (buf .entry)) 0 (take n route) ⌝ }
+{
+    lists::put_all(buf, 0, &route[..n]);
+}
+
+// Writes what was found, if something was.
+fn hand_over(f: Found, buf: &mut [u8]) -> Traced
+    requires { ⌜ f .len ≤ 15 ⌝ }
+    ensures { λ t. ⌜ (t ≡ handedOver f (now (buf .entry)) .answer) × (now (buf .exit) ≡ handedOver f (now (buf .entry)) .bytes) ⌝ }
+{
+    let ok = f.ok;
+    if !ok {
+        return Traced::Refused(43);
+    }
+    let n = f.len;
+    let route = f.route;
+    put_route(route, n, buf);
+    Traced::Route(n as u8)
+}
+
+// The least route from one node place to another, written into the buffer; or a refusal, which changes nothing.
+pub fn first_route(
+    ends: [[u8; 2]; 48],
+    ways: [u8; 48],
+    links: usize,
+    from: u8,
+    to: u8,
+    buf: &mut [u8],
+) -> Traced
+    ensures { λ t. ⌜ t ≡ firstIn ends ways links from to (now (buf .entry)) .answer ⌝ }
+    ensures bytes { λ _. ⌜ now (buf .exit) ≡ firstIn ends ways links from to (now (buf .entry)) .bytes ⌝ }
+    ensures number { λ t. ⌜ tracedNumber t ≡ firstRefusalIn ends ways links from to (now (buf .entry)) ⌝ }
+    ensures length { λ t. ⌜ tracedLength t ≡ unlessRefused (firstRefusalIn ends ways links from to (now (buf .entry))) (length (firstRoute (routesIn ends ways links from to))) 0 ⌝ }
+{
+    if MOST_LINKS < links {
+        return Traced::Refused(26);
+    }
+    if MOST_NODES <= from {
+        return Traced::Refused(28);
+    }
+    if buf.len() < LONGEST_ROUTE {
+        return Traced::Refused(42);
+    }
+    let met = only_met(from);
+    let f = walk_on(ends, ways, links, to, from, met, 0);
+    hand_over(f, buf)
+}
+
+// The least route after the one in the first `given` bytes of the buffer, written over it; or a refusal, which changes nothing.
+pub fn next_route(
+    ends: [[u8; 2]; 48],
+    ways: [u8; 48],
+    links: usize,
+    from: u8,
+    to: u8,
+    buf: &mut [u8],
+    given: usize,
+) -> Traced
+    ensures { λ t. ⌜ t ≡ nextIn ends ways links from to (now (buf .entry)) given .answer ⌝ }
+    ensures bytes { λ _. ⌜ now (buf .exit) ≡ nextIn ends ways links from to (now (buf .entry)) given .bytes ⌝ }
+    ensures number { λ t. ⌜ tracedNumber t ≡ nextRefusalIn ends ways links from to (now (buf .entry)) given ⌝ }
+    ensures length { λ t. ⌜ tracedLength t ≡ unlessRefused (nextRefusalIn ends ways links from to (now (buf .entry)) given) (length (nextRoute (routesIn ends ways links from to) (now (buf .entry)) given)) 0 ⌝ }
+{
+    if MOST_LINKS < links {
+        return Traced::Refused(26);
+    }
+    if MOST_NODES <= from {
+        return Traced::Refused(28);
+    }
+    if buf.len() < LONGEST_ROUTE {
+        return Traced::Refused(42);
+    }
+    if LONGEST_ROUTE < given {
+        return Traced::Refused(41);
+    }
+    let met = only_met(from);
+    let r = &buf[..given];
+    let good = route_from(ends, ways, links, to, r, from, met, 0);
+    if !good {
+        return Traced::Refused(41);
+    }
+    let f = later(ends, ways, links, to, r, from, met, 0);
+    hand_over(f, buf)
+}
+
+// Document 01's number of an answer: 0 beside a route.
+pub fn traced_number(answer: Traced) -> u8
+    ensures { λ r. ⌜ r ≡ tracedNumber answer ⌝ }
+{
+    match answer {
+        Traced::Route(_) => 0,
+        Traced::Refused(number) => number,
+    }
+}

@@ -1,0 +1,75 @@
+// The two steps that call on each other: trying the links of a node, and walking on from a link's far end. With each node met fewer are left,
+// and with each link tried too.
+use crate::Found;
+use crate::Way;
+use crate::ends::seek;
+ghost use mathlib.Core.Path.{_≡_};
+ghost use Prim.Native.Nat.{_+_, _≤_};
+ghost use Rattle.routes.specs.All.{unmet};
+ghost use Rattle.routes.specs.Steps.{leastTry, leastFrom};
+ghost use Rattle.search.specs.Net.{metOf, net};
+ghost use Rattle.search.specs.Steps.{notFound, foundAt};
+
+// Nothing found.
+pub fn nothing() -> Found
+    ensures { λ r. ⌜ r ≡ notFound ⌝ }
+{
+    Found {
+        ok: false,
+        len: 0,
+        route: [0u8; 15],
+    }
+}
+
+// The least route on from the node at by a link at place i or later; d links come before it.
+pub fn try_links(
+    ends: [[u8; 2]; 48],
+    ways: [u8; 48],
+    links: usize,
+    to: u8,
+    at: u8,
+    met: [bool; 16],
+    i: usize,
+    d: usize,
+) -> Found
+    requires { ⌜ links ≤ 48 ⌝ ∗ ⌜ d + unmet 16 (metOf met) ≤ 15 ⌝ }
+    ensures { λ r. ⌜ r ≡ foundAt d (leastTry (net ends ways links to) at (metOf met) i) ⌝ }
+{
+    let w = seek(ends, ways, links, at, met, i);
+    let Way::By(k, n) = w else {
+        return nothing();
+    };
+    let m = n as usize;
+    let mut then = met;
+    then[m] = true;
+    let mut f = walk_on(ends, ways, links, to, n, then, d + 1);
+    let ok = f.ok;
+    if ok {
+        f.route[d] = k as u8;
+        return f;
+    }
+    try_links(ends, ways, links, to, at, met, k + 1, d)
+}
+
+// The least route on from the node at, which is marked met; d links come before it.
+pub fn walk_on(
+    ends: [[u8; 2]; 48],
+    ways: [u8; 48],
+    links: usize,
+    to: u8,
+    at: u8,
+    met: [bool; 16],
+    d: usize,
+) -> Found
+    requires { ⌜ links ≤ 48 ⌝ ∗ ⌜ d + unmet 16 (metOf met) ≤ 15 ⌝ }
+    ensures { λ r. ⌜ r ≡ foundAt d (leastFrom (net ends ways links to) at (metOf met)) ⌝ }
+{
+    if at == to {
+        return Found {
+            ok: true,
+            len: d,
+            route: [0u8; 15],
+        };
+    }
+    try_links(ends, ways, links, to, at, met, 0, d)
+}
