@@ -1,8 +1,12 @@
 // What C calls (include/poztecameh.h): numbers and byte images in, numbers and byte images out. What each call does stands in the crates below.
+mod charts;
 mod envelopes;
 mod ledgers;
 mod tables;
+mod traces;
 
+pub use charts::pz_chart_read;
+pub use charts::pz_chart_write;
 pub use envelopes::pz_read;
 pub use envelopes::pz_write;
 pub use ledgers::pz_accept;
@@ -10,3 +14,5 @@ pub use ledgers::pz_answer;
 pub use ledgers::pz_clear;
 pub use ledgers::pz_tick;
 pub use tables::pz_choose;
+pub use traces::pz_first;
+pub use traces::pz_next;

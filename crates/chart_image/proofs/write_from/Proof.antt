@@ -33,7 +33,7 @@ returns-2 : tie.Need-returns-2
 returns-2 c = write-done (c .before .before .before .before .before .before .before .before .before .before .before .args .image .now) (c .before .before .before .before .before .before .before .before .before .before .before .args .chart .now) (c .before .before .before .before .before .before .before .before .if1 .left) (c .before .before .before .before .before .before .before .chart-in .ensures) (c .before .before .before .before .before .write-chart .result) (c .before .before .before .before .before .write-chart .ensures .1 .0) (c .before .before .before .before .before .write-chart .ensures .1 .1 .0) (c .before .before .before .before .before .write-chart .ensures .1 .1 .1) (c .write-number .ensures) (ap writeCount (sym (c .before .enum-told .given .1)))
 
 cast-written : tie.Need-cast-written
-cast-written c = 
+cast-written c =
     let s = read-undoes-write _ (c .before .before .before .before .before .before .before .before .before .before .before .args .chart .now) (c .before .answer .given .0 .0) (sym (c .before .before .before .before .before .write-chart .ensures .0) ∙ c .before .answer .given .1) .short in
     record { fits = omega arith }
 

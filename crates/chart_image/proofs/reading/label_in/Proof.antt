@@ -36,12 +36,12 @@ loop-less c = search needs
 
 loop-again : tie.Need-loop-again Inv-loop μ-loop
 unfolding bytesFrom
-loop-again c = 
+loop-again c =
     let l = c .before .before .loop in
     (omega arith, rw (c .byte-at .ensures, l .inv .1) (row-next 24 0 (bytesFrom (c .before .before .before .before .args .b .now) (c .before .before .before .before .args .at)) (l .i) (omega arith)))
 
 returns : tie.Need-returns Inv-loop μ-loop
-returns c = 
+returns c =
     let l = c .before .loop in
     let e : l .i ≡ 24 = omega arith in
     rw (l .inv .1, e)

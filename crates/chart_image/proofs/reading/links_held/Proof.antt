@@ -46,12 +46,12 @@ loop-less c = search needs
 
 loop-again : tie.Need-loop-again Inv-loop μ-loop
 unfolding linkHeld
-loop-again c = 
+loop-again c =
     let l = c .before .before .loop in
     (omega arith, rw (c .link-held .ensures, l .inv .1) (row-next 48 noLink (linkHeld (c .before .before .before .before .before .args .b .now)) (l .i) (omega arith)))
 
 returns : tie.Need-returns Inv-loop μ-loop
-returns c = 
+returns c =
     let l = c .before .loop in
     let e : l .i ≡ c .before .before .before .before .args .n = omega arith in
     rw (l .inv .1, e)
