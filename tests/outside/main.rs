@@ -4,6 +4,12 @@
 mod bits;
 mod book;
 mod call;
+mod chart;
+mod chart_call;
+mod chart_cases;
+mod chart_draft;
+mod chart_draws;
+mod chart_image;
 mod damage;
 mod door;
 mod draw;
@@ -15,6 +21,10 @@ mod router;
 mod routing;
 mod rules;
 mod sequences;
+mod trace;
+mod trace_call;
+mod trace_cases;
+mod trace_draws;
 mod wire;
 
 use std::process::exit;
@@ -32,8 +42,17 @@ fn main() {
     };
     println!("seed {seed}");
     let (mut checks, mut failed) = (0, 0);
-    let groups =
-        [envelope::GROUPS, routing::GROUPS, ledger::GROUPS, damage::GROUPS, sequences::GROUPS];
+    let groups = [
+        envelope::GROUPS,
+        routing::GROUPS,
+        ledger::GROUPS,
+        damage::GROUPS,
+        sequences::GROUPS,
+        chart_cases::GROUPS,
+        chart_draws::GROUPS,
+        trace_cases::GROUPS,
+        trace_draws::GROUPS,
+    ];
     for tests in groups.concat() {
         let group = group::run(tests, seed);
         checks += group.checks;
