@@ -1,5 +1,6 @@
 //! The outside tests: the library behind its C interface, compared with what is written here a
-//! second time from the documents. A seed may be given as the first argument.
+//! second time from the documents. A seed may be given as the first argument; with `charts` instead
+//! the sample charts are written and nothing is tested.
 
 mod bits;
 mod book;
@@ -10,6 +11,7 @@ mod chart_cases;
 mod chart_draft;
 mod chart_draws;
 mod chart_image;
+mod chart_samples;
 mod damage;
 mod door;
 mod draw;
@@ -32,7 +34,12 @@ use std::process::exit;
 const SEED: u64 = 92;
 
 fn main() {
-    let seed = match std::env::args().nth(1).map(|text| text.parse()) {
+    let argument = std::env::args().nth(1);
+    if argument.as_deref() == Some("charts") {
+        chart_samples::write();
+        return;
+    }
+    let seed = match argument.map(|text| text.parse()) {
         None => SEED,
         Some(Ok(seed)) => seed,
         Some(Err(_)) => {
@@ -50,6 +57,7 @@ fn main() {
         sequences::GROUPS,
         chart_cases::GROUPS,
         chart_draws::GROUPS,
+        chart_samples::GROUPS,
         trace_cases::GROUPS,
         trace_draws::GROUPS,
     ];
