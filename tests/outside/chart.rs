@@ -15,6 +15,7 @@ pub const LINK: u8 = 2;
 pub const QUESTION: u8 = 3;
 
 const STATION: usize = 3;
+const END: usize = 4;
 const HEAD: usize = 3;
 
 /// A refusal number, and the place where the field begins that earned it.
@@ -44,18 +45,19 @@ impl<'a> Field<'a> {
     }
 
     /// Gives the two ends of a link, station and port; no other field has any.
-    pub fn ends(self) -> impl Iterator<Item = &'a [u8]> {
-        self.body.chunks(STATION + 1).take(if self.tag == LINK { 2 } else { 0 })
+    pub fn ends(self) -> impl Iterator<Item = [u8; END]> + 'a {
+        let count = if self.tag == LINK { 2 } else { 0 };
+        self.body.chunks(END).take(count).map(|b| [b[0], b[1], b[2], b[3]])
     }
 
     /// Gives the stations that the field writes or names.
-    pub fn stations(self) -> impl Iterator<Item = &'a [u8]> {
+    pub fn stations(self) -> impl Iterator<Item = [u8; STATION]> + 'a {
         let (apart, count) = match self.tag {
             NODE => (STATION, 1),
-            LINK => (STATION + 1, 2),
+            LINK => (END, 2),
             _ => (STATION, 2),
         };
-        self.body.chunks(apart).take(count).map(|bytes| &bytes[..STATION])
+        self.body.chunks(apart).take(count).map(|b| [b[0], b[1], b[2]])
     }
 
     fn in_range(self) -> bool {
@@ -92,11 +94,11 @@ impl<'a> Judged<'a> {
         self.earlier(tag).next().is_some()
     }
 
-    fn is_written(&self, station: &[u8]) -> bool {
+    fn is_written(&self, station: [u8; STATION]) -> bool {
         self.earlier(NODE).flat_map(Field::stations).any(|written| written == station)
     }
 
-    fn is_used(&self, end: &[u8]) -> bool {
+    fn is_used(&self, end: [u8; END]) -> bool {
         self.earlier(LINK).flat_map(Field::ends).any(|used| used == end)
     }
 

@@ -13,8 +13,10 @@ use std::collections::HashSet;
 
 pub const GROUPS: &[Tests] = &[("chart reads", reads), ("chart writes", writes)];
 
-const DRAWN_READS: usize = 200_000;
-const DRAWN_WRITES: usize = 80_000;
+// Sound charts that are drawn, and how often each of them is damaged anew.
+const READ: usize = 50_000;
+const WRITTEN: usize = 20_000;
+const ANEW: usize = 4;
 
 // Times that each number must come, in each kind of field that can earn it.
 const OFTEN: u64 = 300;
@@ -86,14 +88,14 @@ pub fn draw_link_between(draw: &mut Draw, draft: &mut Draft, one: usize, other: 
 fn draw_draft(draw: &mut Draw) -> Draft {
     let few = draw.within(2, 5);
     let many = draw.within(6, 15);
-    let count = draw.one_of(&[1, 2, few, few, few, few, many, many, MOST_NODES]);
+    let count = draw.one_of(&[1, 2, few, few, few, few, few, few, many, many, MOST_NODES]);
     let nodes = draw_nodes(draw, count);
     let [from, to] = [draw.below(count), draw.below(count)].map(|place| nodes[place].station);
     let mut draft = Draft { nodes, links: Vec::new(), from, to };
     if count > 1 {
         let few = draw.within(2, 8);
         let many = draw.within(9, 47);
-        let links = draw.one_of(&[0, 1, few, few, few, few, few, many, MOST_LINKS]);
+        let links = draw.one_of(&[0, 1, few, few, few, few, few, few, many, MOST_LINKS]);
         (0..links).for_each(|_| draw_link(draw, &mut draft));
     }
     draft
@@ -360,12 +362,14 @@ fn reads(group: &mut Group, draw: &mut Draw) -> Outcome {
         other: Tally::new("pz_chart_read, another tag refused"),
         end: Tally::new("pz_chart_read, the end refused"),
     };
-    for _ in 0..DRAWN_READS {
+    for _ in 0..READ {
         let draft = draw_draft(draw);
-        let chart = damage(draw, draft);
-        let lent = draw.one_of(&[888, 888, 888, 888, 888, 0, 887, 889, 1000]);
-        let came = try_read(group, "drawn", &chart, lent)?;
-        tallies.saw(&chart, came);
+        for _ in 0..ANEW {
+            let chart = damage(draw, draft.clone());
+            let lent = draw.one_of(&[888, 888, 888, 888, 888, 0, 887, 889, 1000]);
+            let came = try_read(group, "drawn", &chart, lent)?;
+            tallies.saw(&chart, came);
+        }
     }
     tallies.accepted.settle_often(group, &[0, 10], OFTEN)?;
     tallies.node.settle_often(group, &[21, 23, 24, 25, 26, 27], OFTEN)?;
@@ -403,28 +407,35 @@ const IMAGE_FAULTS: [Fault<Vec<u8>>; 5] = [
     },
 ];
 
+// Gives the image of a chart with none, one or several faults, and a size for the chart's buffer.
+fn damage_image(draw: &mut Draw, mut draft: Draft) -> (Vec<u8>, usize) {
+    for _ in 0..draw.one_of(&[0, 0, 0, 1, 1, 1, 2, 3]) {
+        draw.one_of(&DRAFT_FAULTS)(&mut draft, draw);
+    }
+    let mut image = draft.image();
+    if draw.below(4) > 0 {
+        fill_unlooked(&mut image, draw);
+    }
+    for _ in 0..draw.one_of(&[0, 0, 0, 0, 1, 2]) {
+        draw.one_of(&IMAGE_FAULTS)(&mut image, draw);
+    }
+    let noise = draw.bytes(40);
+    image.extend(noise);
+    image.truncate(draw.one_of(&[888, 888, 888, 888, 888, 888, 889, 928, 887, 0]));
+    let size = draft.lay().len();
+    let less = draw.below(size);
+    let more = draw.within(size + 1, size + 100);
+    (image, draw.one_of(&[size, size, size, size, size - 1, less, more]))
+}
+
 fn writes(group: &mut Group, draw: &mut Draw) -> Outcome {
     let mut tally = Tally::new("pz_chart_write");
-    for _ in 0..DRAWN_WRITES {
-        let mut draft = draw_draft(draw);
-        for _ in 0..draw.one_of(&[0, 0, 0, 1, 1, 1, 2, 3]) {
-            draw.one_of(&DRAFT_FAULTS)(&mut draft, draw);
+    for _ in 0..WRITTEN {
+        let draft = draw_draft(draw);
+        for _ in 0..ANEW {
+            let (image, room) = damage_image(draw, draft.clone());
+            tally.saw(try_write(group, "drawn", &image, room)?);
         }
-        let mut image = draft.image();
-        if draw.below(4) > 0 {
-            fill_unlooked(&mut image, draw);
-        }
-        for _ in 0..draw.one_of(&[0, 0, 0, 0, 1, 2]) {
-            draw.one_of(&IMAGE_FAULTS)(&mut image, draw);
-        }
-        let noise = draw.bytes(40);
-        image.extend(noise);
-        image.truncate(draw.one_of(&[888, 888, 888, 888, 888, 888, 889, 928, 887, 0]));
-        let size = draft.lay().len();
-        let less = draw.below(size);
-        let more = draw.within(size + 1, size + 100);
-        let room = draw.one_of(&[size, size, size, size, size - 1, less, more]);
-        tally.saw(try_write(group, "drawn", &image, room)?);
     }
     tally.settle_often(group, &[0, 10, 23, 24, 26, 27, 28, 29, 30], OFTEN)
 }

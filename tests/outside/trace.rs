@@ -10,10 +10,13 @@ pub const MOST_STEPS: usize = 15;
 /// Link places, from the first link on.
 pub type Route = Vec<u8>;
 
+// A station as its bytes stand in a chart.
+type Station = [u8; 3];
+
 // A route's beginning, and the stations met on it.
-struct Part<'a> {
+struct Part {
     route: Route,
-    met: Vec<&'a [u8]>,
+    met: Vec<Station>,
 }
 
 /// All routes of a chart in order, or the chart's refusal.
@@ -60,11 +63,11 @@ impl Routes {
 // Routes of one chart are never each other's beginning, so sorting compares them where they differ.
 fn walk(fields: &[Field], most: usize) -> Option<Vec<Route>> {
     let question = fields.iter().find(|field| field.tag == QUESTION).expect("a question");
-    let asked: Vec<&[u8]> = question.stations().collect();
-    let mut ways: BTreeMap<&[u8], Vec<(u8, &[u8])>> = BTreeMap::new();
+    let asked: Vec<Station> = question.stations().collect();
+    let mut ways: BTreeMap<Station, Vec<(u8, Station)>> = BTreeMap::new();
     for (place, link) in fields.iter().filter(|field| field.tag == LINK).enumerate() {
         if link.body[8] == 1 {
-            let stations: Vec<&[u8]> = link.stations().collect();
+            let stations: Vec<Station> = link.stations().collect();
             for (near, far) in [(0, 1), (1, 0)] {
                 let onward = ways.entry(stations[near]).or_default();
                 onward.push((place as u8, stations[far]));
@@ -84,7 +87,7 @@ fn walk(fields: &[Field], most: usize) -> Option<Vec<Route>> {
             found.push(part.route);
             continue;
         }
-        for (place, far) in ways.get(tip).into_iter().flatten() {
+        for (place, far) in ways.get(&tip).into_iter().flatten() {
             if !part.met.contains(far) {
                 let route = [&part.route[..], &[*place]].concat();
                 let met = [&part.met[..], &[*far]].concat();

@@ -11,7 +11,7 @@ use crate::trace_call::{try_first, try_next, walk_through};
 pub const GROUPS: &[Tests] = &[("trace draws", draws)];
 
 const DRAWN: usize = 6_000;
-const JUNK: usize = 5;
+const JUNK: usize = 3;
 
 // Beginnings of routes, which bound the routes and the dead ends alike.
 const FEW: [usize; 5] = [40, 40, 100, 100, 400];
