@@ -18,6 +18,9 @@ const STATION: usize = 3;
 const END: usize = 4;
 const HEAD: usize = 3;
 
+/// A station as it stands in a chart: the brigade, then the node's two bytes.
+pub type StationBytes = [u8; STATION];
+
 /// A refusal number, and the place where the field begins that earned it.
 pub type Refusal = (u8, usize);
 
@@ -51,7 +54,7 @@ impl<'a> Field<'a> {
     }
 
     /// Gives the stations that the field writes or names.
-    pub fn stations(self) -> impl Iterator<Item = [u8; STATION]> + 'a {
+    pub fn stations(self) -> impl Iterator<Item = StationBytes> + 'a {
         let (apart, count) = match self.tag {
             NODE => (STATION, 1),
             LINK => (END, 2),
@@ -94,7 +97,7 @@ impl<'a> Judged<'a> {
         self.earlier(tag).next().is_some()
     }
 
-    fn is_written(&self, station: [u8; STATION]) -> bool {
+    fn is_written(&self, station: StationBytes) -> bool {
         self.earlier(NODE).flat_map(Field::stations).any(|written| written == station)
     }
 

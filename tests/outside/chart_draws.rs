@@ -15,7 +15,7 @@ pub const GROUPS: &[Tests] = &[("chart reads", reads), ("chart writes", writes)]
 
 // Sound charts that are drawn, and how often each of them is damaged anew.
 const READ: usize = 50_000;
-const WRITTEN: usize = 20_000;
+const WRITTEN: usize = 12_000;
 const ANEW: usize = 4;
 
 // Times that each number must come, in each kind of field that can earn it.

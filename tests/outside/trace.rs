@@ -1,7 +1,7 @@
 //! A second list of a chart's routes, from document 01. Each way of walking on is put on a pile
 //! until none is left; those that came to the end are sorted, and what is next is looked up.
 
-use crate::chart::{self, Field, LINK, QUESTION};
+use crate::chart::{self, Field, StationBytes, LINK, QUESTION};
 use crate::door::{Expected, Given};
 use std::collections::BTreeMap;
 
@@ -10,13 +10,10 @@ pub const MOST_STEPS: usize = 15;
 /// Link places, from the first link on.
 pub type Route = Vec<u8>;
 
-// A station as its bytes stand in a chart.
-type Station = [u8; 3];
-
 // A route's beginning, and the stations met on it.
 struct Part {
     route: Route,
-    met: Vec<Station>,
+    met: Vec<StationBytes>,
 }
 
 /// All routes of a chart in order, or the chart's refusal.
@@ -63,11 +60,11 @@ impl Routes {
 // Routes of one chart are never each other's beginning, so sorting compares them where they differ.
 fn walk(fields: &[Field], most: usize) -> Option<Vec<Route>> {
     let question = fields.iter().find(|field| field.tag == QUESTION).expect("a question");
-    let asked: Vec<Station> = question.stations().collect();
-    let mut ways: BTreeMap<Station, Vec<(u8, Station)>> = BTreeMap::new();
+    let asked: Vec<StationBytes> = question.stations().collect();
+    let mut ways: BTreeMap<StationBytes, Vec<(u8, StationBytes)>> = BTreeMap::new();
     for (place, link) in fields.iter().filter(|field| field.tag == LINK).enumerate() {
         if link.body[8] == 1 {
-            let stations: Vec<Station> = link.stations().collect();
+            let stations: Vec<StationBytes> = link.stations().collect();
             for (near, far) in [(0, 1), (1, 0)] {
                 let onward = ways.entry(stations[near]).or_default();
                 onward.push((place as u8, stations[far]));
