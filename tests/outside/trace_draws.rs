@@ -17,7 +17,7 @@ const JUNK: usize = 3;
 const FEW: [usize; 5] = [40, 40, 100, 100, 400];
 
 // Times that each number must come.
-const OFTEN: u64 = 50;
+const OFTEN: u64 = 40;
 
 // ---- charts ----
 
