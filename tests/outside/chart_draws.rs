@@ -14,7 +14,7 @@ use std::collections::HashSet;
 pub const GROUPS: &[Tests] = &[("chart reads", reads), ("chart writes", writes)];
 
 // Sound charts that are drawn, and how often each of them is damaged anew.
-const READ: usize = 50_000;
+const READ: usize = 60_000;
 const WRITTEN: usize = 12_000;
 const ANEW: usize = 4;
 
