@@ -1,7 +1,8 @@
 /* Poztecameh: what C and Rust call. Link libdoor.a (tests/run and tools/frame show how it is built).
  *
- * Every call returns 0 or a refusal number. A refusal changes no byte of a lent image or buffer. The numbers that
- * come back beside it through a pointer are set by every call, and are 0 beside a refusal.
+ * Every call returns 0 or a refusal number; pz_first and pz_next return a route's length, 0 to 15, instead of 0. A
+ * refusal changes no byte of a lent image or buffer. The numbers that come back beside it through a pointer are set by
+ * every call, and are 0 beside a refusal, but for the place of a refused chart's field.
  *
  * A lent image that is too short to be used is refused; one that is longer is used at its start. Numbers of more than
  * one byte in an image have the high byte first. No two of the areas handed to one call may overlap, and a pointer is
@@ -18,6 +19,24 @@
  *    8  two destinations are equal
  *    9  the version is not the one of the message type
  *   10  the lent image or buffer is too short
+ *
+ * Refusals of a chart, by its first bad field, and in it the lowest that applies:
+ *   21  the field is cut short
+ *   22  the tag is not 1, 2 or 3
+ *   23  the tag does not allow the length
+ *   24  a value is out of its range
+ *   25  a node stands after a link, or anything after the question
+ *   26  a 17th node or a 49th link
+ *   27  the node is written twice
+ *   28  an end or the question names a node that is not written
+ *   29  the link joins a node to itself
+ *   30  an earlier link uses one of the ends
+ *   31  the chart ends without a question
+ *
+ * Refusals of a route, after those of the chart, in this order:
+ *   42  the buffer is shorter than 15
+ *   41  what was given is no route
+ *   43  there is no route, or none later
  *
  * Refusals of a table and of a ledger, in the order of each call:
  *   50  a table's count, node or port, or its own address, is out of range, or its image can't be read
@@ -87,6 +106,37 @@ uint8_t pz_tick(uint8_t *ledger, size_t m, uint8_t *ended);
 
 /* Removes the settled leg at a place; those after it move down one, and the place that is freed is zeroed. 60, 65. */
 uint8_t pz_clear(uint8_t *ledger, size_t m, size_t place);
+
+/* The longest chart: 16 nodes with labels of 24, 48 links and the question. */
+#define PZ_CHART_SIZE 1065
+
+/* The image of a chart: node count 1, link count 1, from 3 (brigade 1, node 2), to 3, then 16 nodes of 28 (brigade 1,
+ * node 2, label length 1, label 24) and 48 links of 9 (two ends of 4: brigade 1, node 2, port 1; then on 1), the unused
+ * ones zero, as are the bytes past a label. */
+#define PZ_CHART_IMAGE_SIZE 888
+
+/* Reads a chart of n bytes and writes its image: 21 to 31 of the chart, *place being where the refused field begins (31:
+ * the chart's size), then 10 if the image has fewer than 888 bytes. */
+uint8_t pz_chart_read(const uint8_t *chart, size_t n, uint8_t *image, size_t m, uint16_t *place);
+
+/* Writes the chart of an image into n bytes at chart; *written is its size. Places past the counts and bytes past a
+ * label's length are not looked at. 10 if the image has fewer than 888 bytes, then 26 for a count above 16 or 48, then
+ * the number that reading would give (a label length above 24 is 23, an on above 1 is 24), then 10 if the chart does
+ * not fit. */
+uint8_t pz_chart_write(const uint8_t *image, size_t m, uint8_t *chart, size_t n, uint16_t *written);
+
+/* The most links that a route has. A route is one link place for each link that it passes, from the question's first
+ * station to its second; no station is met twice, and a link that is off is not passed. */
+#define PZ_ROUTE_SIZE 15
+
+/* Writes the least route of a chart's question into m bytes at route and returns its length; of two routes the one with
+ * the smaller link place comes first, where they differ. Bytes past it stay, and the length handed in is not looked at.
+ * 21 to 31 of the chart, 42, 43. */
+uint8_t pz_first(const uint8_t *chart, size_t n, uint8_t *route, size_t m, size_t length);
+
+/* Writes the least route after the one of this length that stands at route, and returns its length. Bytes past it
+ * stay. 21 to 31 of the chart, 42, 41, 43. */
+uint8_t pz_next(const uint8_t *chart, size_t n, uint8_t *route, size_t m, size_t length);
 
 #ifdef __cplusplus
 }

@@ -54,6 +54,16 @@ extern "C" {
     ) -> u8;
     fn pz_tick(ledger: *mut u8, m: usize, ended: *mut u8) -> u8;
     fn pz_clear(ledger: *mut u8, m: usize, place: usize) -> u8;
+    fn pz_chart_read(chart: *const u8, n: usize, image: *mut u8, m: usize, place: *mut u16) -> u8;
+    fn pz_chart_write(
+        image: *const u8,
+        m: usize,
+        chart: *mut u8,
+        n: usize,
+        written: *mut u16,
+    ) -> u8;
+    fn pz_first(chart: *const u8, n: usize, route: *mut u8, m: usize, length: usize) -> u8;
+    fn pz_next(chart: *const u8, n: usize, route: *mut u8, m: usize, length: usize) -> u8;
 }
 
 const GUARD: usize = 64;
@@ -64,16 +74,29 @@ const MOST_SHOWN: usize = 2000;
 // No call gives a number made of such bytes.
 const UNSET: u64 = 0xa5a5_a5a5_a5a5_a5a5;
 
-/// What a call gives that is not refused: the first bytes of the lent buffer, the others left as
-/// they were, and the numbers beside its own.
+/// What a call gives: its number, the first bytes of the lent buffer, the others left as they
+/// were, and the numbers beside its own.
 pub struct Given {
+    pub number: u8,
     pub bytes: Vec<u8>,
     pub beside: Vec<usize>,
 }
 
 impl Given {
+    /// What most calls give that are not refused.
     pub fn new(bytes: Vec<u8>, beside: &[usize]) -> Given {
-        Given { bytes, beside: beside.to_vec() }
+        Given { number: 0, bytes, beside: beside.to_vec() }
+    }
+
+    /// A refused chart: a number beside the refusal is real, the field's place.
+    pub fn refused_at(number: u8, place: usize) -> Given {
+        Given { number, bytes: Vec::new(), beside: vec![place] }
+    }
+
+    /// A route: the call's number is its length.
+    pub fn route(links: &[u8]) -> Given {
+        let number = links.len().try_into().expect("a route's length");
+        Given { number, bytes: links.to_vec(), beside: Vec::new() }
     }
 }
 
@@ -190,7 +213,7 @@ impl Answer {
     // Gives the number, the bytes and the numbers beside that make up what is expected.
     fn parts(&self, expected: &Expected) -> (u8, Vec<u8>, Vec<usize>) {
         match expected {
-            Ok(given) => (0, given.bytes.clone(), given.beside.clone()),
+            Ok(given) => (given.number, given.bytes.clone(), given.beside.clone()),
             Err(number) => (*number, Vec::new(), vec![0; self.beside.len()]),
         }
     }
@@ -359,4 +382,42 @@ pub fn clear(ledger: &[u8], place: usize) -> Answer {
     let mut ledger = Lent::holding("ledger", ledger);
     let number = unsafe { pz_clear(ledger.start(), ledger.size, place) };
     Answer { number, lent: ledger, handed_in: vec![], beside: vec![] }
+}
+
+/// Calls pz_chart_read and lends it an image of this size.
+pub fn chart_read(chart: &[u8], image_size: usize) -> Answer {
+    let mut chart = Lent::holding("chart", chart);
+    let mut image = Lent::blank("image", image_size);
+    let mut place = Beside::new("place", u16::BITS);
+    let number = unsafe {
+        pz_chart_read(chart.start(), chart.size, image.start(), image.size, place.start())
+    };
+    Answer { number, lent: image, handed_in: vec![chart], beside: vec![place] }
+}
+
+/// Calls pz_chart_write and lends it a chart buffer of this size.
+pub fn chart_write(image: &[u8], chart_size: usize) -> Answer {
+    let mut image = Lent::holding("image", image);
+    let mut chart = Lent::blank("chart", chart_size);
+    let mut written = Beside::new("written", u16::BITS);
+    let number = unsafe {
+        pz_chart_write(image.start(), image.size, chart.start(), chart.size, written.start())
+    };
+    Answer { number, lent: chart, handed_in: vec![image], beside: vec![written] }
+}
+
+/// Calls pz_first on a route buffer that holds these bytes.
+pub fn first(chart: &[u8], route: &[u8], length: usize) -> Answer {
+    let mut chart = Lent::holding("chart", chart);
+    let mut route = Lent::holding("route", route);
+    let number = unsafe { pz_first(chart.start(), chart.size, route.start(), route.size, length) };
+    Answer { number, lent: route, handed_in: vec![chart], beside: vec![] }
+}
+
+/// Calls pz_next on a route buffer that holds these bytes.
+pub fn next(chart: &[u8], route: &[u8], length: usize) -> Answer {
+    let mut chart = Lent::holding("chart", chart);
+    let mut route = Lent::holding("route", route);
+    let number = unsafe { pz_next(chart.start(), chart.size, route.start(), route.size, length) };
+    Answer { number, lent: route, handed_in: vec![chart], beside: vec![] }
 }

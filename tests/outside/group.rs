@@ -82,6 +82,11 @@ impl Tally {
 
     /// Prints the tally and checks it: these numbers often enough, and no other.
     pub fn settle(&self, group: &mut Group, numbers: &[u8]) -> Outcome {
+        self.settle_often(group, numbers, OFTEN)
+    }
+
+    /// The same, each of the numbers at least so many times.
+    pub fn settle_often(&self, group: &mut Group, numbers: &[u8], often: u64) -> Outcome {
         let calls: u64 = self.seen.values().sum();
         let shown: Vec<String> =
             self.seen.iter().map(|(number, times)| format!("{number} x {times}")).collect();
@@ -89,7 +94,7 @@ impl Tally {
         for number in 0..=u8::MAX {
             let times = self.seen.get(&number).copied().unwrap_or(0);
             let (held, asked) = match numbers.contains(&number) {
-                true => (times >= OFTEN, OFTEN),
+                true => (times >= often, often),
                 false => (times == 0, 0),
             };
             group.check(held, || {

@@ -1,9 +1,17 @@
 //! The outside tests: the library behind its C interface, compared with what is written here a
-//! second time from the documents. A seed may be given as the first argument.
+//! second time from the documents. A seed may be given as the first argument; with `charts` instead
+//! the sample charts are written and nothing is tested.
 
 mod bits;
 mod book;
 mod call;
+mod chart;
+mod chart_call;
+mod chart_cases;
+mod chart_draft;
+mod chart_draws;
+mod chart_image;
+mod chart_samples;
 mod damage;
 mod door;
 mod draw;
@@ -15,6 +23,10 @@ mod router;
 mod routing;
 mod rules;
 mod sequences;
+mod trace;
+mod trace_call;
+mod trace_cases;
+mod trace_draws;
 mod wire;
 
 use std::process::exit;
@@ -22,7 +34,12 @@ use std::process::exit;
 const SEED: u64 = 92;
 
 fn main() {
-    let seed = match std::env::args().nth(1).map(|text| text.parse()) {
+    let argument = std::env::args().nth(1);
+    if argument.as_deref() == Some("charts") {
+        chart_samples::write();
+        return;
+    }
+    let seed = match argument.map(|text| text.parse()) {
         None => SEED,
         Some(Ok(seed)) => seed,
         Some(Err(_)) => {
@@ -32,8 +49,18 @@ fn main() {
     };
     println!("seed {seed}");
     let (mut checks, mut failed) = (0, 0);
-    let groups =
-        [envelope::GROUPS, routing::GROUPS, ledger::GROUPS, damage::GROUPS, sequences::GROUPS];
+    let groups = [
+        envelope::GROUPS,
+        routing::GROUPS,
+        ledger::GROUPS,
+        damage::GROUPS,
+        sequences::GROUPS,
+        chart_cases::GROUPS,
+        chart_draws::GROUPS,
+        chart_samples::GROUPS,
+        trace_cases::GROUPS,
+        trace_draws::GROUPS,
+    ];
     for tests in groups.concat() {
         let group = group::run(tests, seed);
         checks += group.checks;

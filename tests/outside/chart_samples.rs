@@ -1,0 +1,105 @@
+//! The sample charts of charts/, made again here and compared with the files, so that nobody has
+//! to believe bytes that can't be read. `outside charts` writes the files.
+
+use crate::chart::{Refusal, NODE};
+use crate::chart_call::known_read;
+use crate::chart_cases::{largest, S};
+use crate::chart_draft::{lay_pieces, Draft, DraftLink, Piece};
+use crate::draw::Draw;
+use crate::group::{Group, Outcome, Tests};
+use crate::trace::Routes;
+use crate::trace_call::walk_through;
+use crate::trace_cases::thousand;
+use std::fs;
+
+pub const GROUPS: &[Tests] = &[("chart samples", samples)];
+
+// Where the tests are started, the root of the project.
+const FOLDER: &str = "charts";
+
+// More than any sample has.
+const MANY: usize = 100_000;
+
+// A name, the refusal, the number of routes, and the chart.
+type Sample = (&'static str, Refusal, usize, fn() -> Vec<u8>);
+
+const ACCEPTED: Refusal = (0, 0);
+
+const SAMPLES: [Sample; 21] = [
+    ("s", ACCEPTED, 4, || S.to_vec()),
+    ("unlabelled", ACCEPTED, 4, || {
+        changed(|d| d.nodes.iter_mut().for_each(|node| node.label.clear()))
+    }),
+    ("off", ACCEPTED, 2, || changed(|d| d.links[4].on = 0)),
+    ("apart", ACCEPTED, 0, || changed(|d| [0, 1].iter().for_each(|&link| d.links[link].on = 0))),
+    ("here", ACCEPTED, 1, || changed(|d| d.to = d.from)),
+    ("parallel", ACCEPTED, 6, || {
+        changed(|d| d.links.push(DraftLink::new((9, 20, 60), (9, 30, 60))))
+    }),
+    ("largest", ACCEPTED, 3, || largest().lay()),
+    ("thousand", ACCEPTED, 1000, || thousand(0).lay()),
+    ("thousand-one", ACCEPTED, 1001, || thousand(1).lay()),
+    ("cut", (21, 115), 0, || S[..120].to_vec()),
+    ("tag", (22, 43), 0, || rearranged(|p| p[4].tag = 4)),
+    ("length", (23, 13), 0, || changed(|d| d.nodes[1].label = vec![b'x'; 25])),
+    ("range", (24, 0), 0, || vec![1, 0, 3, 9, 4, 0]),
+    ("after", (25, 124), 0, || rearranged(|p| p.push(Piece::new(NODE, vec![9, 0, 40])))),
+    ("crowd", (26, 96), 0, || Draft::row(17).lay()),
+    ("twice", (27, 33), 0, || changed(|d| d.nodes[3].station = (9, 20))),
+    ("stranger", (28, 43), 0, || changed(|d| d.links[0].ends[1].node = 2)),
+    ("loop", (29, 91), 0, || changed(|d| d.links[4].ends[1].node = 20)),
+    ("taken", (30, 55), 0, || changed(|d| d.links[1].ends[0].port = 2)),
+    ("unasked", (31, 115), 0, || rearranged(|p| p.truncate(10))),
+    ("empty", (31, 0), 0, Vec::new),
+];
+
+// Gives S with one thing changed in its values.
+fn changed(change: fn(&mut Draft)) -> Vec<u8> {
+    let mut draft = Draft::s();
+    change(&mut draft);
+    draft.lay()
+}
+
+// Gives S with one thing changed in its fields.
+fn rearranged(change: fn(&mut Vec<Piece>)) -> Vec<u8> {
+    let mut pieces = Draft::s().pieces();
+    change(&mut pieces);
+    lay_pieces(&pieces)
+}
+
+fn file(name: &str) -> String {
+    format!("{FOLDER}/{name}.chart")
+}
+
+/// Writes the sample charts.
+pub fn write() {
+    fs::create_dir_all(FOLDER).expect("a folder for the charts");
+    for (name, _, _, make) in SAMPLES {
+        fs::write(file(name), make()).expect("a chart that can be written");
+    }
+    println!("charts: {} written", SAMPLES.len());
+}
+
+fn samples(group: &mut Group, _: &mut Draw) -> Outcome {
+    for (name, refusal, count, make) in SAMPLES {
+        let chart = make();
+        let stored = fs::read(file(name)).ok();
+        group.check(stored.as_ref() == Some(&chart), || {
+            format!("{} is not the chart that is made here", file(name))
+        })?;
+        known_read(group, name, refusal, &chart)?;
+        let routes = Routes::of(&chart, MANY).expect("a chart of few routes");
+        let numbers = walk_through(group, name, &chart, &routes, vec![0; 15], 0)?;
+        let end = if refusal == ACCEPTED { 43 } else { refusal.0 };
+        group.check(numbers.len() == count + 1 && numbers[count] == end, || {
+            format!("{name}\n  expected {count} routes, then {end}\n  came {numbers:?}")
+        })?;
+    }
+    let files = fs::read_dir(FOLDER).into_iter().flatten().flatten();
+    let is_chart = |file: &fs::DirEntry| file.path().extension().map_or(false, |e| e == "chart");
+    let stored = files.filter(is_chart).count();
+    group.check(stored == SAMPLES.len(), || {
+        format!("{stored} charts in {FOLDER}, {} are made here", SAMPLES.len())
+    })?;
+    Ok(())
+}

@@ -1,0 +1,97 @@
+//! A second list of a chart's routes, from document 01. Each way of walking on is put on a pile
+//! until none is left; those that came to the end are sorted, and what is next is looked up.
+
+use crate::chart::{self, Field, StationBytes, LINK, QUESTION};
+use crate::door::{Expected, Given};
+use std::collections::BTreeMap;
+
+pub const MOST_STEPS: usize = 15;
+
+/// Link places, from the first link on.
+pub type Route = Vec<u8>;
+
+// A route's beginning, and the stations met on it.
+struct Part {
+    route: Route,
+    met: Vec<StationBytes>,
+}
+
+/// All routes of a chart in order, or the chart's refusal.
+pub struct Routes(Result<Vec<Route>, u8>);
+
+impl Routes {
+    /// Lists the routes of a chart, unless there are more beginnings of routes than this.
+    pub fn of(chart: &[u8], most: usize) -> Option<Routes> {
+        match chart::read(chart) {
+            Ok(fields) => walk(&fields, most).map(|routes| Routes(Ok(routes))),
+            Err((number, _)) => Some(Routes(Err(number))),
+        }
+    }
+
+    /// Gives the list, empty for a refused chart.
+    pub fn list(&self) -> &[Route] {
+        self.0.as_ref().map_or(&[], |routes| routes)
+    }
+
+    // Gives the list for a call that is lent a buffer of this size, or the refusal.
+    fn lent(&self, room: usize) -> Result<&[Route], u8> {
+        let routes = self.0.as_ref().map_err(|number| *number)?;
+        if room < MOST_STEPS {
+            return Err(42);
+        }
+        Ok(routes)
+    }
+
+    /// Gives what pz_first should, whatever the buffer holds.
+    pub fn first(&self, buffer: &[u8]) -> Expected {
+        let least = self.lent(buffer.len())?.first();
+        least.map(|route| Given::route(route)).ok_or(43)
+    }
+
+    /// Gives what pz_next should, for a route of this length in the buffer.
+    pub fn next(&self, buffer: &[u8], length: usize) -> Expected {
+        let routes = self.lent(buffer.len())?;
+        let given = buffer.get(..length).ok_or(41)?;
+        let place = routes.iter().position(|route| route == given).ok_or(41)?;
+        routes.get(place + 1).map(|route| Given::route(route)).ok_or(43)
+    }
+}
+
+// Routes of one chart are never each other's beginning, so sorting compares them where they differ.
+fn walk(fields: &[Field], most: usize) -> Option<Vec<Route>> {
+    let question = fields.iter().find(|field| field.tag == QUESTION).expect("a question");
+    let asked: Vec<StationBytes> = question.stations().collect();
+    let mut ways: BTreeMap<StationBytes, Vec<(u8, StationBytes)>> = BTreeMap::new();
+    for (place, link) in fields.iter().filter(|field| field.tag == LINK).enumerate() {
+        if link.body[8] == 1 {
+            let stations: Vec<StationBytes> = link.stations().collect();
+            for (near, far) in [(0, 1), (1, 0)] {
+                let onward = ways.entry(stations[near]).or_default();
+                onward.push((place as u8, stations[far]));
+            }
+        }
+    }
+    let mut pile = vec![Part { route: Vec::new(), met: vec![asked[0]] }];
+    let mut found = Vec::new();
+    let mut taken = 0;
+    while let Some(part) = pile.pop() {
+        taken += 1;
+        if taken > most {
+            return None;
+        }
+        let tip = part.met[part.met.len() - 1];
+        if tip == asked[1] {
+            found.push(part.route);
+            continue;
+        }
+        for (place, far) in ways.get(&tip).into_iter().flatten() {
+            if !part.met.contains(far) {
+                let route = [&part.route[..], &[*place]].concat();
+                let met = [&part.met[..], &[*far]].concat();
+                pile.push(Part { route, met });
+            }
+        }
+    }
+    found.sort();
+    Some(found)
+}
