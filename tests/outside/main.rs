@@ -29,7 +29,10 @@ mod trace_cases;
 mod trace_draws;
 mod wire;
 
+use group::Tests;
 use std::process::exit;
+use std::sync::atomic::{AtomicUsize, Ordering};
+use std::thread;
 
 const SEED: u64 = 92;
 
@@ -48,7 +51,6 @@ fn main() {
         }
     };
     println!("seed {seed}");
-    let (mut checks, mut failed) = (0, 0);
     let groups = [
         envelope::GROUPS,
         routing::GROUPS,
@@ -61,13 +63,28 @@ fn main() {
         trace_cases::GROUPS,
         trace_draws::GROUPS,
     ];
-    for tests in groups.concat() {
-        let group = group::run(tests, seed);
-        checks += group.checks;
-        failed += group.failed;
-    }
+    let (checks, failed) = run_all(&groups.concat(), seed);
     println!("outside: {checks} checks, {failed} failed");
     if failed > 0 {
         exit(1);
     }
+}
+
+/// Runs the groups, as many at a time as the machine has processors, and adds up their checks and failures.
+fn run_all(groups: &[Tests], seed: u64) -> (u64, u64) {
+    let next = AtomicUsize::new(0);
+    let worker = || {
+        let mut sum = (0, 0);
+        while let Some(&tests) = groups.get(next.fetch_add(1, Ordering::Relaxed)) {
+            let group = group::run(tests, seed);
+            sum = (sum.0 + group.checks, sum.1 + group.failed);
+        }
+        sum
+    };
+    let workers = thread::available_parallelism().map_or(1, |count| count.get());
+    thread::scope(|scope| {
+        let started: Vec<_> = (0..workers).map(|_| scope.spawn(worker)).collect();
+        let sums = started.into_iter().map(|one| one.join().expect("a group panicked"));
+        sums.fold((0, 0), |all, one| (all.0 + one.0, all.1 + one.1))
+    })
 }
