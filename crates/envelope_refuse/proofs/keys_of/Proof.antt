@@ -1,4 +1,4 @@
--- `envelope_write::refusing::keys_of` meets its contract. The loop's invariant: the first i keys are in the row.
+-- `envelope_refuse::keys_of` meets its contract. The loop's invariant: the first i keys are in the row.
 use Prim.Native.Nat.{_≤_, _-_}
 use mathlib.Core.Path.{_≡_, sym}
 use Rattle.lists.specs.Places.{row, elementAt}
@@ -7,8 +7,8 @@ use Rattle.address.specs.Address.{zeroAddress}
 use Rattle.envelope.specs.Keys.{keyAt}
 use native.Mathlib.Omega.{arith}
 use borrow.Author.Needs.{needs}
-use Rattle.envelope_write.proofs.refusing.keys_of.Statement.{statement}
-use Rattle.envelope_write.proofs.refusing.keys_of.Tie as tie
+use Rattle.envelope_refuse.proofs.keys_of.Statement.{statement}
+use Rattle.envelope_refuse.proofs.keys_of.Tie as tie
 
 abbrev Inv-loop : tie.InvT-loop
 Inv-loop n places keys₀ i₀ keys i =

@@ -7,8 +7,8 @@ use Rattle.envelope.specs.Frame.{destinationAt}
 use Rattle.envelope.specs.Keys.{keyAt}
 use native.Mathlib.Omega.{arith}
 use borrow.Author.Needs.{needs}
-use Rattle.envelope_read.proofs.places.keys_in.Statement.{statement}
-use Rattle.envelope_read.proofs.places.keys_in.Tie as tie
+use Rattle.envelope_read.proofs.frame.keys_in.Statement.{statement}
+use Rattle.envelope_read.proofs.frame.keys_in.Tie as tie
 
 abbrev Inv-loop : tie.InvT-loop
 Inv-loop part n keys₀ i₀ keys i =

@@ -1,4 +1,4 @@
--- `envelope_write::refusing::any_stray` meets its contract. The loop's invariant: no address before i is out of range.
+-- `envelope_refuse::any_stray` meets its contract. The loop's invariant: no address before i is out of range.
 use Prim.Native.Nat.{_≤_, _-_}
 use mathlib.Core.Path.{_≡_, sym}
 use mathlib.Core.Bool.{false}
@@ -9,8 +9,8 @@ use Rattle.address.specs.Address.{zeroAddress}
 use Rattle.envelope.specs.Refusal.{strayAt}
 use native.Mathlib.Omega.{arith}
 use borrow.Author.Needs.{needs}
-use Rattle.envelope_write.proofs.refusing.any_stray.Statement.{statement}
-use Rattle.envelope_write.proofs.refusing.any_stray.Tie as tie
+use Rattle.envelope_refuse.proofs.any_stray.Statement.{statement}
+use Rattle.envelope_refuse.proofs.any_stray.Tie as tie
 
 abbrev Inv-loop : tie.InvT-loop
 Inv-loop n places i₀ i =

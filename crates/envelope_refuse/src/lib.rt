@@ -1,4 +1,4 @@
-// The writer's refusals, 4 to 10.
+// Whether an envelope that is given as values can be written: refusals 4 to 10.
 use address::Address;
 use address::LARGEST_SEQ;
 use envelope::Fixed;
@@ -9,7 +9,7 @@ ghost use Rattle.lists.specs.Places.{anyBelow, elementAt, row};
 ghost use Rattle.address.specs.Address.{zeroAddress};
 ghost use Rattle.envelope.specs.Refusal.{strayAt, outOfRange};
 ghost use Rattle.envelope.specs.Keys.{keyAt};
-ghost use Rattle.envelope_write.specs.Write.{writeRefusal};
+ghost use Rattle.envelope_refuse.specs.Refuse.{writeRefusal};
 
 // Whether one of the first n addresses is out of range.
 fn any_stray(places: [Address; 63], n: usize) -> bool

@@ -1,4 +1,4 @@
-// The destinations of a frame: as values in 63 places, the unused ones zero, and as keys.
+// The destinations of a frame as values in 63 places, the unused ones zero.
 use address::Address;
 use address::Node;
 use address::Port;
@@ -8,7 +8,6 @@ ghost use lib.ListN.{replicate};
 ghost use Rattle.lists.specs.Places.{row};
 ghost use Rattle.address.specs.Address.{zeroAddress};
 ghost use Rattle.envelope.specs.Frame.{destinationAt};
-ghost use Rattle.envelope.specs.Keys.{keyAt};
 
 pub fn no_places() -> [Address; 63]
     ensures { λ r. ⌜ r ≡ replicate 63 zeroAddress ⌝ }
@@ -34,18 +33,4 @@ pub fn read_places(part: &[u8], n: usize) -> [Address; 63]
         i += 1;
     }
     places
-}
-
-// The keys of the first n destinations of the part of a frame that begins with them.
-pub fn keys_in(part: &[u8], n: usize) -> [u32; 63]
-    requires { ⌜ n ≤ 63 ⌝ }
-    ensures { λ r. ⌜ r ≡ row 63 0 (keyAt (destinationAt (now (part .entry)))) n ⌝ }
-{
-    let mut keys = [0u32; 63];
-    let mut i = 0;
-    while i < n {
-        keys[i] = address::key(envelope::destination(part, i as u8));
-        i += 1;
-    }
-    keys
 }

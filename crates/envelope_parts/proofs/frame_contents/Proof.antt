@@ -1,6 +1,7 @@
 -- `envelope_read::frame_contents` meets its contract: the fields that the reader gave say where the contents are.
 use Rattle.envelope.proofs.Laws.{accepted}
-use Rattle.envelope_read.proofs.Laws.{contents-cut, contents-begin, Opened, read-envelope, read-refused, contents-refused, contents-at-refused}
+use Rattle.envelope_read.proofs.Laws.{Opened, read-envelope, read-refused}
+use Rattle.envelope_parts.proofs.Laws.{contents-cut, contents-begin, contents-refused, contents-at-refused}
 use Prim.Native.Nat.{ℕ, _+_}
 use mathlib.Core.Path.{_≡_, refl, sym, _∙_, ap}
 use native.Mathlib.Nat.{zero-add}
@@ -9,8 +10,8 @@ use Rattle.envelope.specs.Frame.{fieldsOf}
 use Rattle.envelope.specs.Refusal.{refusalOf}
 use native.Mathlib.Omega.{arith}
 use borrow.Author.Needs.{needs}
-use Rattle.envelope_read.proofs.frame_contents.Statement.{statement}
-use Rattle.envelope_read.proofs.frame_contents.Tie as tie
+use Rattle.envelope_parts.proofs.frame_contents.Statement.{statement}
+use Rattle.envelope_parts.proofs.frame_contents.Tie as tie
 
 -- the fields are those of the frame, which is accepted
 opened : (c : tie.After-e) → Opened (refusalOf (c .before .before .before .before .args .frame .now)) (c .e .given .0 .0) (fieldsOf (c .before .before .before .before .args .frame .now))

@@ -1,10 +1,10 @@
--- `envelope_write::refusing::out_of_range` meets its contract: the source decides, then the sequence number, else the destinations.
+-- `envelope_refuse::out_of_range` meets its contract: the source decides, then the sequence number, else the destinations.
 use borrow.Author.Tests.{lt-ltb, le-ltb}
 use Rattle.lists.proofs.Bools.{told-no, told-yes}
 use Rattle.envelope.specs.Refusal.{outOfRange}
 use borrow.Author.Needs.{needs}
-use Rattle.envelope_write.proofs.refusing.out_of_range.Statement.{statement}
-use Rattle.envelope_write.proofs.refusing.out_of_range.Tie as tie
+use Rattle.envelope_refuse.proofs.out_of_range.Statement.{statement}
+use Rattle.envelope_refuse.proofs.out_of_range.Tie as tie
 
 in-range-requires : tie.Need-in-range-requires
 in-range-requires c κs = search needs

@@ -1,14 +1,14 @@
--- `envelope_write::refusing::write_refusal` meets its contract: the values' refusal, by their keys, and then the room.
+-- `envelope_refuse::write_refusal` meets its contract: the values' refusal, by their keys, and then the room.
 use mathlib.Core.Path.{_≡_, sym, _∙_}
 use Rattle.lists.specs.Places.{elementAt}
 use Rattle.address.specs.Address.{zeroAddress}
 use Rattle.envelope.specs.Refusal.{valuesRefusal}
 use Rattle.envelope.proofs.Laws.{valued}
-use Rattle.envelope_write.proofs.Laws.{count-refused, values-by-keys, write-values, write-short, write-fits}
+use Rattle.envelope_refuse.proofs.Laws.{count-refused, values-by-keys, write-values, write-short, write-fits}
 use native.Mathlib.Omega.{arith}
 use borrow.Author.Needs.{needs}
-use Rattle.envelope_write.proofs.refusing.write_refusal.Statement.{statement}
-use Rattle.envelope_write.proofs.refusing.write_refusal.Tie as tie
+use Rattle.envelope_refuse.proofs.write_refusal.Statement.{statement}
+use Rattle.envelope_refuse.proofs.write_refusal.Tie as tie
 
 -- the number by the keys is the values'
 judged : (c : tie.After-values-refusal) → c .values-refusal .result ≡ valuesRefusal (c .before .before .before .before .before .before .before .args .e) (c .before .before .before .before .before .before .before .args .n) (elementAt zeroAddress (c .before .before .before .before .before .before .before .args .places))

@@ -1,14 +1,15 @@
 -- `envelope_read::frame_destinations` meets its contract: the destination reader sees the part from the sixth byte on.
 use Rattle.envelope.proofs.Laws.{accepted, count-le}
-use Rattle.envelope_read.proofs.Laws.{destinations-cut, Opened, read-envelope, read-refused, destinations-refused}
+use Rattle.envelope_read.proofs.Laws.{Opened, read-envelope, read-refused}
+use Rattle.envelope_parts.proofs.Laws.{destinations-cut, destinations-refused}
 use mathlib.Core.Path.{_≡_, sym, _∙_, ap}
 use Rattle.envelope.specs.declared.Fixed.{Fixed}
 use Rattle.envelope.specs.Frame.{countOf, fieldsOf}
 use Rattle.envelope.specs.Refusal.{refusalOf}
 use native.Mathlib.Omega.{arith}
 use borrow.Author.Needs.{needs}
-use Rattle.envelope_read.proofs.frame_destinations.Statement.{statement}
-use Rattle.envelope_read.proofs.frame_destinations.Tie as tie
+use Rattle.envelope_parts.proofs.frame_destinations.Statement.{statement}
+use Rattle.envelope_parts.proofs.frame_destinations.Tie as tie
 
 -- the fields are those of the frame, which is accepted
 opened : (c : tie.After-e) → Opened (refusalOf (c .before .before .before .before .args .frame .now)) (c .e .given .0 .0) (fieldsOf (c .before .before .before .before .args .frame .now))

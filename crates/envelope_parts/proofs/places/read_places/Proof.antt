@@ -7,8 +7,8 @@ use Rattle.address.specs.Address.{zeroAddress}
 use Rattle.envelope.specs.Frame.{destinationAt}
 use native.Mathlib.Omega.{arith}
 use borrow.Author.Needs.{needs}
-use Rattle.envelope_read.proofs.places.read_places.Statement.{statement}
-use Rattle.envelope_read.proofs.places.read_places.Tie as tie
+use Rattle.envelope_parts.proofs.places.read_places.Statement.{statement}
+use Rattle.envelope_parts.proofs.places.read_places.Tie as tie
 
 abbrev Inv-loop : tie.InvT-loop
 Inv-loop part n places₀ i₀ places i =
