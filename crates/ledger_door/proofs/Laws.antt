@@ -10,12 +10,12 @@ use Rattle.route.specs.declared.Choice.{Choice}
 use Rattle.route.specs.declared.Table.{Table}
 use Rattle.route.specs.Route.{choiceNumber, choiceLocal, choicePort, chooseOf}
 use Rattle.ledger.specs.declared.Ledger.{Ledger}
-use Rattle.ledger_calls.specs.declared.Reply.{Reply}
-use Rattle.ledger_calls.specs.declared.Outcome.{Outcome}
-use Rattle.ledger_calls.specs.declared.Ticked.{Ticked}
-use Rattle.ledger_calls.specs.Answer.{answerOf}
-use Rattle.ledger_calls.specs.Tick.{tickOf}
-use Rattle.ledger_calls.specs.Clear.{clearOf}
+use Rattle.answer.specs.declared.Reply.{Reply}
+use Rattle.ledger.specs.declared.Outcome.{Outcome}
+use Rattle.tick.specs.declared.Ticked.{Ticked}
+use Rattle.answer.specs.Answer.{answerOf}
+use Rattle.tick.specs.Tick.{tickOf}
+use Rattle.clear.specs.Clear.{clearOf}
 use Rattle.accept.specs.declared.Accepted.{Accepted}
 use Rattle.accept.specs.Accept.{acceptOf}
 use Rattle.table_image.specs.Table.{tableOf}

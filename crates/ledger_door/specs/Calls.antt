@@ -9,13 +9,13 @@ use Rattle.address.specs.declared.Seq.{Seq}
 use Rattle.address.specs.declared.Address.{Address}
 use Rattle.route.specs.declared.Choice.{Choice}
 use Rattle.route.specs.Route.{chooseOf, choiceNumber, choiceLocal, choicePort}
-use Rattle.ledger_calls.specs.declared.Reply.{Reply}
-use Rattle.ledger_calls.specs.declared.Reply.the-variants.{Ack, Nak}
-use Rattle.ledger_calls.specs.declared.Outcome.{Outcome}
-use Rattle.ledger_calls.specs.declared.Ticked.{Ticked}
-use Rattle.ledger_calls.specs.Answer.{answerOf}
-use Rattle.ledger_calls.specs.Tick.{tickOf}
-use Rattle.ledger_calls.specs.Clear.{clearOf}
+use Rattle.answer.specs.declared.Reply.{Reply}
+use Rattle.answer.specs.declared.Reply.the-variants.{Ack, Nak}
+use Rattle.ledger.specs.declared.Outcome.{Outcome}
+use Rattle.tick.specs.declared.Ticked.{Ticked}
+use Rattle.answer.specs.Answer.{answerOf}
+use Rattle.tick.specs.Tick.{tickOf}
+use Rattle.clear.specs.Clear.{clearOf}
 use Rattle.accept.specs.declared.Accepted.{Accepted}
 use Rattle.accept.specs.Accept.{acceptOf}
 use Rattle.table_image.specs.Table.{tableOf}

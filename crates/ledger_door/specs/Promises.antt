@@ -6,7 +6,7 @@ use Prim.Native.Nat.{ℕ}
 use Rattle.address.specs.declared.Port.{Port}
 use Rattle.address.specs.declared.Seq.{Seq}
 use Rattle.address.specs.declared.Address.{Address}
-use Rattle.ledger_calls.specs.declared.Reply.{Reply}
+use Rattle.answer.specs.declared.Reply.{Reply}
 use Rattle.table_image.specs.Table.{readableTable, tableOf}
 use Rattle.ledger_image.specs.Ledger.{readableLedger}
 use Rattle.ledger_laws.specs.Calls.{accepting}

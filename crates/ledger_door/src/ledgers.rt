@@ -3,7 +3,7 @@ use address::Address;
 use address::Node;
 use address::Port;
 use address::Seq;
-use ledger_calls::Reply;
+use answer::Reply;
 ghost use mathlib.Core.Path.{_≡_};
 ghost use Rattle.address.specs.Address.{addressOf};
 ghost use Rattle.ledger_door.specs.Calls.{replyOf, answerFor, answerImage, tickFor, tickImage, clearFor, clearImage, acceptFor, acceptImage};
@@ -67,7 +67,7 @@ pub extern "C" fn pz_answer(
         port: Port(to_port),
     };
     let reply = reply_of(nak, set, code);
-    let after = ledger_calls::answer(l, by, to, Seq(seq), reply);
+    let after = answer::answer(l, by, to, Seq(seq), reply);
     let m = after.ledger;
     ledger_image::put_back(ledger, after.number, m, l.count)
 }
@@ -78,7 +78,7 @@ pub extern "C" fn pz_tick(ledger: &mut [u8], ended: &mut u8) -> u8
     ensures { λ r. ⌜ (r ≡ tickFor (now (ledger .entry)) .number) × (now (ended .exit) ≡ tickFor (now (ledger .entry)) .ended) × (now (ledger .exit) ≡ tickImage (now (ledger .entry))) ⌝ }
 {
     let l = ledger_image::ledger_of(ledger);
-    let after = ledger_calls::tick(l);
+    let after = tick::tick(l);
     *ended = after.ended;
     let m = after.ledger;
     ledger_image::put_back(ledger, after.number, m, l.count)
@@ -90,7 +90,7 @@ pub extern "C" fn pz_clear(ledger: &mut [u8], place: usize) -> u8
     ensures { λ r. ⌜ (r ≡ clearFor (now (ledger .entry)) place .number) × (now (ledger .exit) ≡ clearImage (now (ledger .entry)) place) ⌝ }
 {
     let l = ledger_image::ledger_of(ledger);
-    let after = ledger_calls::clear(l, place);
+    let after = clear::clear(l, place);
     let m = after.ledger;
     ledger_image::put_back(ledger, after.number, m, l.count)
 }
