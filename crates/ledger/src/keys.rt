@@ -1,15 +1,18 @@
-// Legs as keys, to see whether two open ones are alike.
+// Legs as keys, to see whether one is wrong or two open ones are alike: each leg is looked at once, and the rest goes by its key.
 use crate::Ledger;
 use crate::Leg;
 use crate::rules::is_open;
+use crate::rules::leg_right;
 ghost use mathlib.Core.Path.{_≡_};
 ghost use Prim.Native.Nat.{_<_, _≤_};
-ghost use Rattle.lists.specs.Places.{repeatAt, repeats, elementAt, row};
-ghost use Rattle.ledger.specs.Keys.{legKey, legKeyAt, sameKey};
+ghost use Rattle.lists.specs.Places.{anyBelow, repeatAt, repeats, elementAt, row};
+ghost use Rattle.ledger.specs.Keys.{rightKey, legKey, legKeyAt, wrongKeyAt, sameKey};
+
+const WRONG_KEY: u64 = 18446744073709551615;
 
 // The 63 bits of source, destination and sequence number of an open leg, and one more; 0 of a settled leg.
-fn leg_key(g: Leg) -> u64
-    ensures { λ r. ⌜ r ≡ legKey g ⌝ }
+fn right_key(g: Leg) -> u64
+    ensures { λ r. ⌜ r ≡ rightKey g ⌝ }
 {
     let s = g.standing;
     if !is_open(s) {
@@ -19,6 +22,16 @@ fn leg_key(g: Leg) -> u64
     let to = address::key(g.destination) as u64;
     let n = g.seq.0 as u64;
     from * 549755813888 + to * 32768 + n + 1
+}
+
+// The key of a leg that is right, or the wrong key.
+fn leg_key(g: Leg) -> u64
+    ensures { λ r. ⌜ r ≡ legKey g ⌝ }
+{
+    if !leg_right(g) {
+        return WRONG_KEY;
+    }
+    right_key(g)
 }
 
 // The keys of the legs.
@@ -35,6 +48,22 @@ pub fn keys_of(l: Ledger) -> [u64; 128]
         i += 1;
     }
     keys
+}
+
+// Whether one of the first n keys is the wrong one.
+pub fn any_wrong(keys: &[u64; 128], n: usize) -> bool
+    requires { ⌜ n ≤ 128 ⌝ }
+    ensures { λ r. ⌜ r ≡ anyBelow (wrongKeyAt (elementAt 0 (now (keys .entry)))) n ⌝ }
+{
+    let mut found = false;
+    let mut i = 0;
+    while i < n {
+        if keys[i] == WRONG_KEY {
+            found = true;
+        }
+        i += 1;
+    }
+    found
 }
 
 // Whether the key at i is an open leg's, and that of an earlier place. No early way out of the loop: so several keys are compared at a time.

@@ -2,15 +2,14 @@
 use crate::Ledger;
 use crate::Leg;
 use crate::Standing;
+use crate::keys::any_wrong;
 use crate::keys::keys_of;
 use crate::keys::repeated;
 use address::Address;
 use address::LARGEST_SEQ;
 use address::Seq;
 ghost use mathlib.Core.Path.{_≡_};
-ghost use Prim.Native.Nat.{_≤_};
-ghost use Rattle.lists.specs.Places.{anyBelow};
-ghost use Rattle.ledger.specs.Rules.{isOpen, openLeg, ticksRight, legRight, wrongAt, obeys};
+ghost use Rattle.ledger.specs.Rules.{isOpen, openLeg, ticksRight, legRight, obeys};
 
 pub const MOST_LEGS: u8 = 128;
 
@@ -56,7 +55,7 @@ fn ticks_right(g: Leg) -> bool
 }
 
 // Whether its ticks, addresses and sequence number are right.
-fn leg_right(g: Leg) -> bool
+pub fn leg_right(g: Leg) -> bool
     ensures { λ r. ⌜ r ≡ legRight g ⌝ }
 {
     if !ticks_right(g) {
@@ -71,23 +70,6 @@ fn leg_right(g: Leg) -> bool
     g.seq.0 <= LARGEST_SEQ
 }
 
-// Whether some leg is not right.
-fn any_wrong(l: Ledger) -> bool
-    requires { ⌜ l .count ≤ 128 ⌝ }
-    ensures { λ r. ⌜ r ≡ anyBelow (wrongAt l) (l .count) ⌝ }
-{
-    let n = l.count as usize;
-    let mut i: usize = 0;
-    while i < n {
-        let g = l.legs[i];
-        if !leg_right(g) {
-            return true;
-        }
-        i += 1;
-    }
-    false
-}
-
 // Whether the ledger obeys its rules.
 pub fn obeys_rules(l: Ledger) -> bool
     ensures { λ r. ⌜ r ≡ obeys l ⌝ }
@@ -95,9 +77,10 @@ pub fn obeys_rules(l: Ledger) -> bool
     if MOST_LEGS < l.count {
         return false;
     }
-    if any_wrong(l) {
+    let n = l.count as usize;
+    let keys = keys_of(l);
+    if any_wrong(&keys, n) {
         return false;
     }
-    let keys = keys_of(l);
-    !repeated(&keys, l.count as usize)
+    !repeated(&keys, n)
 }

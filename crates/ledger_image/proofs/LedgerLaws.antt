@@ -1,16 +1,19 @@
 -- Laws of a ledger's image: what one that can be read is, what one that can't stands for, and what is written after a call.
-use Prim.Native.Nat.{ℕ, _≤_, _<_, min}
+use Prim.Native.Nat.{ℕ, _+_, _≤_, _<_, min}
 use mathlib.Core.Path.{_≡_, sym}
 use mathlib.Core.Bool.{true, false}
 use mathlib.Core.List.{List}
 use native.Mathlib.Omega.{arith}
-use lib.ListN.{length}
+use lib.ListN.{length, set, replicate}
 use borrow.Author.Tests.{leb-true}
-use Rattle.lists.specs.Places.{anyBelow}
+use Rattle.lists.specs.Places.{anyBelow, row}
 use Rattle.lists.proofs.Bools.{all-three}
+use Rattle.lists.proofs.Places.{row-none, row-next}
 use Rattle.lists.proofs.Refusals.{taken}
+use Rattle.ledger.specs.declared.Leg.{Leg}
 use Rattle.ledger.specs.declared.Ledger.{Ledger}
-use Rattle.ledger_image.specs.Ledger.{legCount, strayLegAt, readableLedger, ledgerIn, brokenLedger, ledgerOf, withLegs, ledgerAfter}
+use Rattle.ledger.specs.Rules.{noLeg}
+use Rattle.ledger_image.specs.Ledger.{legCount, heldLeg, strayLegAt, readableLedger, ledgerIn, brokenLedger, ledgerOf, withLegs, ledgerAfter}
 
 -- an image that can be read
 pub record Readable (b : List ℕ) : Type 0 where
@@ -32,6 +35,17 @@ module _ (b : List ℕ) where
   pub ledger-unread : readableLedger b ≡ false → brokenLedger ≡ ledgerOf b
   unfolding ledgerOf
   ledger-unread h = rw h
+
+-- the legs read one by one: the ledger with the first i of them
+module _ (b : List ℕ) where
+  abbrev pub readTo : ℕ → Ledger
+  readTo i = record { count = legCount b; legs = row 128 noLeg (heldLeg b) i }
+
+  pub read-none : _≡_ {A = Ledger} (record { count = legCount b; legs = replicate 128 noLeg }) (readTo 0)
+  read-none = rw (row-none 128 noLeg (heldLeg b))
+
+  pub read-next : (i : ℕ) → i < 128 → (l : Ledger) {g : Leg} → l ≡ readTo i → g ≡ heldLeg b i → _≡_ {A = Ledger} (record { count = l .count; legs = set (l .legs) i g }) (readTo (i + 1))
+  read-next i h l e q = rw (e, q, row-next 128 noLeg (heldLeg b) i h)
 
 -- what is written after a call that is not refused: the first n legs, or all 128
 module _ (b : List ℕ) (number : ℕ) (l : Ledger) (n : ℕ) (z : number ≡ 0) where

@@ -9,9 +9,8 @@ ghost use mathlib.Core.Path.{_≡_};
 ghost use mathlib.Core.Bool.{true};
 ghost use Prim.Native.Nat.{_≤_};
 ghost use lib.ListN.{length};
-ghost use Rattle.lists.specs.Places.{anyBelow, row};
-ghost use Rattle.ledger.specs.Rules.{noLeg};
-ghost use Rattle.ledger_image.specs.Ledger.{heldLeg, strayLegAt, readableLedger, ledgerIn, ledgerOf, withLegs, ledgerAfter};
+ghost use Rattle.lists.specs.Places.{anyBelow};
+ghost use Rattle.ledger_image.specs.Ledger.{strayLegAt, readableLedger, ledgerIn, ledgerOf, withLegs, ledgerAfter};
 
 mod legs;
 
@@ -46,30 +45,23 @@ fn readable_ledger(b: &[u8]) -> bool
     !any_stray(b, n as usize)
 }
 
-// The first n legs in an image, and no leg at the other places.
-fn legs_in(b: &[u8], n: usize) -> [Leg; 128]
-    requires { ⌜ (n ≤ 128) × (1921 ≤ length (now b)) ⌝ }
-    ensures { λ r. ⌜ r ≡ row 128 noLeg (heldLeg (now (b .entry))) n ⌝ }
-{
-    let none = ledger::no_leg();
-    let mut legs = [none; 128];
-    let mut i = 0;
-    while i < n {
-        let g = leg_in(b, 1 + 15 * i);
-        legs[i] = g;
-        i += 1;
-    }
-    legs
-}
-
-// The ledger in an image that can be read.
+// The ledger in an image that can be read, with no leg at the other places.
 fn read_ledger(b: &[u8]) -> Ledger
     requires { ⌜ readableLedger (now b) ≡ true ⌝ }
     ensures { λ r. ⌜ r ≡ ledgerIn (now (b .entry)) ⌝ }
 {
-    let n = b[0];
-    let legs = legs_in(b, n as usize);
-    Ledger { count: n, legs }
+    let count = b[0];
+    let n = count as usize;
+    let none = ledger::no_leg();
+    let legs = [none; 128];
+    let mut l = Ledger { count, legs };
+    let mut i = 0;
+    while i < n {
+        let g = leg_in(b, 1 + 15 * i);
+        l.legs[i] = g;
+        i += 1;
+    }
+    l
 }
 
 // The ledger in an image; where it can't be read, one with a leg too many.
