@@ -57,6 +57,7 @@ table =
     ∷ (choosing T (at 9 20 5) (port 3) ⟶ chosen (Out (port 4)))
     ∷ (choosing T (at 12 7 1) (port 4) ⟶ chosen (Refused 52))
     ∷ (choosing T (at 9 1 6) (port 0) ⟶ chosen (Local (port 6)))
+    ∷ (choosing T (at 9 1 6) (port 3) ⟶ chosen (Local (port 6)))
     -- P11: an acknowledgement settles the second leg only
     ∷ (calling (two 3 Open) (answering (at 9 20 1) (at 9 2 5) (seq 7) Ack ∷ []) ⟶ called (returns 0 0 ∷ []) (two 0 Acknowledged))
     -- P12: two ticks, the second of which times the leg out, and an acknowledgement that comes too late
