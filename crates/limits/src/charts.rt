@@ -135,12 +135,12 @@ fn links(count: u16, a: Address, b: Address) -> Links {
     }
 }
 
-// Writes a chart that asks from 9/1 to 9/to into a buffer of a length.
-fn write_into(nodes: Nodes, links: Links, to: u16, room: u16) {
+// Writes a chart that asks from 9/from to 9/to into a buffer of a length.
+fn write_into(nodes: Nodes, links: Links, from: u16, to: u16, room: u16) {
     let c = Chart {
         nodes,
         links,
-        from: station(1),
+        from: station(from),
         to: station(to),
     };
     put_into(c, room);
@@ -153,11 +153,11 @@ fn put_into(c: Chart, room: u16) {
 }
 
 // v nodes links label letter node a-node a-port b-node b-port to-node room: number, bytes, 0. The first node is 9/node and every other 9/20; every link is
-// from 9/a-node/a-port to 9/b-node/b-port; the question is from 9/1.
+// from 9/a-node/a-port to 9/b-node/b-port; the question is from 9/node to 9/to-node.
 pub fn write(v: &[u16; 64]) {
     let ns = nodes(v[0], node(v[4], v[2], v[3]));
     let ls = links(v[1], at(9, v[5], v[6]), at(9, v[7], v[8]));
-    write_into(ns, ls, v[9], v[10]);
+    write_into(ns, ls, v[4], v[9], v[10]);
 }
 
 fn least(n: u16, most: u16) -> u16 {

@@ -1,12 +1,8 @@
+-- `limits::charts::put_links` is safe and ends: each link has 12 bytes, so 255 of them stay below 90,000.
 use Prim.Native.Nat.{_≤_, _*_, _+_, _-_}
-use native.Mathlib.Omega.{arith}
 use borrow.Author.Needs.{needs}
 use Rattle.limits.proofs.charts.put_links.Statement.{statement}
 use Rattle.limits.proofs.charts.put_links.Tie as tie
-use Rattle.limits.proofs.charts.put_links.Reads as reads
-use Rattle.limits.proofs.charts.put_links.Lts as lts
-use Rattle.limits.proofs.charts.link_bytes.Reads as link-bytes-reads
-use Rattle.lists.proofs.put_all.Reads as put-all-reads
 
 abbrev Inv-loop : tie.InvT-loop
 Inv-loop out₀ from count at₀ i₀ out at i = (i ≤ count) × (at ≤ from + 12 * i)
@@ -14,39 +10,30 @@ Inv-loop out₀ from count at₀ i₀ out at i = (i ≤ count) × (at ≤ from +
 abbrev μ-loop : tie.MeasureT-loop
 μ-loop out₀ from count at₀ i₀ out at i = count - i
 
--- src/charts.rt:59:5
 loop-holds : tie.Need-loop-holds Inv-loop μ-loop
 loop-holds c = search needs
 
--- src/charts.rt:60:34
 link-bytes-requires : tie.Need-link-bytes-requires Inv-loop μ-loop
 link-bytes-requires c κs = search needs
 
--- src/charts.rt:60:33
 slice-aggregate-put-all : tie.Need-slice-aggregate-put-all Inv-loop μ-loop
 slice-aggregate-put-all c = search needs
 
--- src/charts.rt:60:9
 put-all-requires : tie.Need-put-all-requires Inv-loop μ-loop
 put-all-requires c κs = search needs
 
--- src/charts.rt:61:9
 add-at : tie.Need-add-at Inv-loop μ-loop
 add-at c = search needs
 
--- src/charts.rt:62:9
 add-i : tie.Need-add-i Inv-loop μ-loop
 add-i c = search needs
 
--- src/charts.rt:59:5
 loop-less : tie.Need-loop-less Inv-loop μ-loop
 loop-less c = search needs
 
--- src/charts.rt:59:5
 loop-again : tie.Need-loop-again Inv-loop μ-loop
 loop-again c = search needs
 
--- src/charts.rt:53:1
 returns : tie.Need-returns Inv-loop μ-loop
 returns c = search needs
 

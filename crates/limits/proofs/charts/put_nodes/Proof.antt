@@ -1,11 +1,8 @@
-use Prim.Native.Nat.{_≤_, _*_, _+_, _-_}
-use native.Mathlib.Omega.{arith}
+-- `limits::charts::put_nodes` is safe and ends: each node has at most 261 bytes, so 255 of them stay below 80,000.
+use Prim.Native.Nat.{_≤_, _*_, _-_}
 use borrow.Author.Needs.{needs}
 use Rattle.limits.proofs.charts.put_nodes.Statement.{statement}
 use Rattle.limits.proofs.charts.put_nodes.Tie as tie
-use Rattle.limits.proofs.charts.put_nodes.Reads as reads
-use Rattle.limits.proofs.charts.put_nodes.Lts as lts
-use Rattle.lists.proofs.put_all.Reads as put-all-reads
 
 abbrev Inv-loop : tie.InvT-loop
 Inv-loop out₀ count label at₀ i₀ out at i = (i ≤ count) × (at ≤ 261 * i)
@@ -13,43 +10,33 @@ Inv-loop out₀ count label at₀ i₀ out at i = (i ≤ count) × (at ≤ 261 *
 abbrev μ-loop : tie.MeasureT-loop
 μ-loop out₀ count label at₀ i₀ out at i = count - i
 
--- src/charts.rt:38:5
 loop-holds : tie.Need-loop-holds Inv-loop μ-loop
 loop-holds c = search needs
 
--- src/charts.rt:39:41
 add-t12 : tie.Need-add-t12 Inv-loop μ-loop
 add-t12 c = search needs
 
--- src/charts.rt:39:33
 slice-aggregate-put-all : tie.Need-slice-aggregate-put-all Inv-loop μ-loop
 slice-aggregate-put-all c = search needs
 
--- src/charts.rt:39:9
 put-all-requires : tie.Need-put-all-requires Inv-loop μ-loop
 put-all-requires c κs = search needs
 
--- src/charts.rt:40:15
 add-at : tie.Need-add-at Inv-loop μ-loop
 add-at c = search needs
 
--- src/charts.rt:40:9
 add-at-2 : tie.Need-add-at-2 Inv-loop μ-loop
 add-at-2 c = search needs
 
--- src/charts.rt:41:9
 add-i : tie.Need-add-i Inv-loop μ-loop
 add-i c = search needs
 
--- src/charts.rt:38:5
 loop-less : tie.Need-loop-less Inv-loop μ-loop
 loop-less c = search needs
 
--- src/charts.rt:38:5
 loop-again : tie.Need-loop-again Inv-loop μ-loop
 loop-again c = search needs
 
--- src/charts.rt:33:1
 returns : tie.Need-returns Inv-loop μ-loop
 returns c = search needs
 

@@ -1,12 +1,9 @@
-use Prim.Native.Nat.{_≤_, _<_, _-_}
+-- `limits::script::numbers` is safe and ends: the number that is read into stays one of the 64.
+use Prim.Native.Nat.{_<_, _-_}
 use lib.ListN.{length}
-use native.Mathlib.Omega.{arith}
 use borrow.Author.Needs.{needs}
 use Rattle.limits.proofs.script.numbers.Statement.{statement}
 use Rattle.limits.proofs.script.numbers.Tie as tie
-use Rattle.limits.proofs.script.numbers.Reads as reads
-use Rattle.limits.proofs.script.numbers.Lts as lts
-use Rattle.limits.proofs.script.longer.Reads as longer-reads
 
 abbrev Inv-loop : tie.InvT-loop
 Inv-loop line v₀ k₀ i₀ v k i = k < 64
@@ -14,67 +11,51 @@ Inv-loop line v₀ k₀ i₀ v k i = k < 64
 abbrev μ-loop : tie.MeasureT-loop
 μ-loop line v₀ k₀ i₀ v k i = length line - i
 
--- src/script.rt:31:5
 loop-holds : tie.Need-loop-holds Inv-loop μ-loop
 loop-holds c = search needs
 
--- src/script.rt:32:17
 shared-slice-read-c : tie.Need-shared-slice-read-c Inv-loop μ-loop
 shared-slice-read-c c = search needs
 
--- src/script.rt:33:9
 add-i : tie.Need-add-i Inv-loop μ-loop
 add-i c = search needs
 
--- src/script.rt:35:18
 add-k : tie.Need-add-k Inv-loop μ-loop
 add-k c = search needs
 
--- src/script.rt:31:5
 loop-less : tie.Need-loop-less Inv-loop μ-loop
 loop-less c = search needs
 
--- src/script.rt:31:5
 loop-again : tie.Need-loop-again Inv-loop μ-loop
 loop-again c = search needs
 
--- src/script.rt:38:17
 returns : tie.Need-returns Inv-loop μ-loop
 returns c = search needs
 
--- src/script.rt:41:17
 returns-2 : tie.Need-returns-2 Inv-loop μ-loop
 returns-2 c = search needs
 
--- src/script.rt:43:27
 mul-longer : tie.Need-mul-longer Inv-loop μ-loop
 mul-longer c = search needs
 
--- src/script.rt:43:27
 array-read-longer : tie.Need-array-read-longer Inv-loop μ-loop
 array-read-longer c = search needs
 
--- src/script.rt:43:20
 longer-requires : tie.Need-longer-requires Inv-loop μ-loop
 longer-requires c κs = search needs
 
--- src/script.rt:43:13
 mul-v : tie.Need-mul-v Inv-loop μ-loop
 mul-v c = search needs
 
--- src/script.rt:43:13
 array-write-v : tie.Need-array-write-v Inv-loop μ-loop
 array-write-v c = search needs
 
--- src/script.rt:31:5
 loop-less-2 : tie.Need-loop-less-2 Inv-loop μ-loop
 loop-less-2 c = search needs
 
--- src/script.rt:31:5
 loop-again-2 : tie.Need-loop-again-2 Inv-loop μ-loop
 loop-again-2 c = search needs
 
--- src/script.rt:27:1
 returns-3 : tie.Need-returns-3 Inv-loop μ-loop
 returns-3 c = search needs
 

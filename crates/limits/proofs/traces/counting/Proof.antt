@@ -1,11 +1,8 @@
+-- `limits::traces::counting` is safe and ends: i stays within the 64 bytes, and so does the sum with a byte.
 use Prim.Native.Nat.{_≤_, _-_}
-use native.Mathlib.Omega.{arith}
 use borrow.Author.Needs.{needs}
 use Rattle.limits.proofs.traces.counting.Statement.{statement}
 use Rattle.limits.proofs.traces.counting.Tie as tie
-use Rattle.limits.proofs.traces.counting.Reads as reads
-use Rattle.limits.proofs.traces.counting.Lts as lts
-use Rattle.limits.proofs.script.byte.Reads as byte-reads
 
 abbrev Inv-loop : tie.InvT-loop
 Inv-loop begin all₀ i₀ all i = i ≤ 64
@@ -13,39 +10,30 @@ Inv-loop begin all₀ i₀ all i = i ≤ 64
 abbrev μ-loop : tie.MeasureT-loop
 μ-loop begin all₀ i₀ all i = 64 - i
 
--- src/traces.rt:31:5
 loop-holds : tie.Need-loop-holds Inv-loop μ-loop
 loop-holds c = search needs
 
--- src/traces.rt:32:37
 cast-byte : tie.Need-cast-byte Inv-loop μ-loop
 cast-byte c = search needs
 
--- src/traces.rt:32:23
 add-byte : tie.Need-add-byte Inv-loop μ-loop
 add-byte c = search needs
 
--- src/traces.rt:32:18
 byte-requires : tie.Need-byte-requires Inv-loop μ-loop
 byte-requires c κs = search needs
 
--- src/traces.rt:32:9
 array-write-all : tie.Need-array-write-all Inv-loop μ-loop
 array-write-all c = search needs
 
--- src/traces.rt:33:9
 add-i : tie.Need-add-i Inv-loop μ-loop
 add-i c = search needs
 
--- src/traces.rt:31:5
 loop-less : tie.Need-loop-less Inv-loop μ-loop
 loop-less c = search needs
 
--- src/traces.rt:31:5
 loop-again : tie.Need-loop-again Inv-loop μ-loop
 loop-again c = search needs
 
--- src/traces.rt:28:1
 returns : tie.Need-returns Inv-loop μ-loop
 returns c = search needs
 
