@@ -9,8 +9,8 @@ use Rattle.lists.specs.Chains.{firstNumber}
 use Rattle.address.specs.Address.{stationInRange, inRange, sameStation, sameAddress}
 use Rattle.route.specs.Route.{entryAt, isOwn, covers, qualifies, qualifiesAt, hasRoute, outPort, outOf, targetInRange, entryInRange, strayEntry, tableInRange, callInRange, chooseOf}
 use Rattle.ledger.specs.Rules.{legAt, isOpen, openLeg, alike, ticksRight, legRight, wrongAt, obeys}
-use Rattle.ledger_calls.specs.Answer.{standingFor, settled, withLeg, answeredAt, answeredPlace, answerNumber as legNumber, answerOf}
-use Rattle.ledger_calls.specs.Tick.{timesOut, ticked, tickedLedger, tickNumber, tickOf}
+use Rattle.answer.specs.Answer.{standingFor, settled, withLeg, answeredAt, answeredPlace, answerNumber as legNumber, answerOf}
+use Rattle.tick.specs.Tick.{timesOut, ticked, tickedLedger, tickNumber, tickOf}
 use Rattle.ledger_laws.specs.Calls.{numberOf, after}
 use Rattle.chart.specs.Values.{noChart, nodeAt, linkAt, strayByte, nodeInRange, endInRange, linkInRange, standsAt, written, isEnd, endsAt, used}
 use Rattle.chart.specs.Numbers.{bothWritten, eitherUsed, nodeNumber, linkNumber, questionNumber}

@@ -8,7 +8,7 @@ use Rattle.route.specs.declared.Table.{Table}
 use Rattle.route.specs.declared.Choice.{Choice}
 use Rattle.route.specs.Route.{chooseOf}
 use Rattle.ledger.specs.declared.Ledger.{Ledger}
-use Rattle.ledger_calls.specs.Tick.{tickOf}
+use Rattle.tick.specs.Tick.{tickOf}
 use Rattle.accept.specs.Accept.{acceptOf}
 use Rattle.ledger_laws.specs.Calls.{Call, accepting, answering, ticking, clearing, numberOf, after}
 use Rattle.chart.specs.declared.Chart.{Chart}

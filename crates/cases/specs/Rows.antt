@@ -4,7 +4,7 @@ use mathlib.Core.Path.{_≡_}
 use mathlib.Core.List.{List, [], _∷_, List·Memᴰ}
 use Rattle.route.specs.declared.Choice.the-variants.{Local, Out, Refused}
 use Rattle.ledger.specs.declared.Standing.the-variants.{Open, Acknowledged, TimedOut}
-use Rattle.ledger_calls.specs.declared.Reply.the-variants.{Ack}
+use Rattle.answer.specs.declared.Reply.the-variants.{Ack}
 use Rattle.ledger_laws.specs.Calls.{answering, ticking}
 use Rattle.chart.specs.Sample.{S}
 use Rattle.chart_read.specs.Reading.{refusedAt}

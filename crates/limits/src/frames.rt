@@ -77,8 +77,8 @@ pub fn write(v: &[u16; 64]) {
 // What a frame is read as: the number, how many destinations, how many bytes of contents.
 fn report(frame: &[u8]) {
     let number = envelope_read::read_number(envelope_read::read_frame(frame));
-    let to = envelope_read::frame_destinations(frame);
-    let contents = envelope_read::frame_contents(frame);
+    let to = envelope_parts::frame_destinations(frame);
+    let contents = envelope_parts::frame_contents(frame);
     answered(number, to.count as u64, contents.len() as u64);
 }
 

@@ -14,7 +14,7 @@ use address::Seq;
 use ledger::Ledger;
 use ledger::Leg;
 use ledger::Standing;
-use ledger_calls::Reply;
+use answer::Reply;
 use route::Table;
 use route::Target;
 
@@ -119,7 +119,7 @@ pub fn accept(v: &[u16; 64]) {
 // l ledger node port to-node to-port: number, legs timed out, the first leg's ticks after it
 pub fn tick(v: &[u16; 64]) {
     let before = ledger(v, at(9, v[5], v[6]), at(9, v[7], v[8]));
-    let after = ledger_calls::tick(before);
+    let after = tick::tick(before);
     let l = after.ledger;
     let first = leg_at(l, 0);
     answered(after.number, after.ended as u64, first.ticks as u64);
@@ -137,7 +137,7 @@ fn reply(nak: u16, set: u16, code: u16) -> Reply {
 pub fn answer(v: &[u16; 64]) {
     let before = ledger(v, at(9, 1, 5), at(9, 20, 1));
     let r = reply(v[10], v[11], v[12]);
-    let after = ledger_calls::answer(before, at(9, v[5], v[6]), at(9, v[7], v[8]), Seq(v[9]), r);
+    let after = answer::answer(before, at(9, v[5], v[6]), at(9, v[7], v[8]), Seq(v[9]), r);
     let l = after.ledger;
     let first = leg_at(l, 0);
     let s = first.standing;
@@ -147,7 +147,7 @@ pub fn answer(v: &[u16; 64]) {
 // k ledger place: number, legs left, the first leg's sequence number
 pub fn clear(v: &[u16; 64]) {
     let before = ledger(v, at(9, 1, 5), at(9, 20, 1));
-    let after = ledger_calls::clear(before, wide(v[5]));
+    let after = clear::clear(before, wide(v[5]));
     let l = after.ledger;
     let first = leg_at(l, 0);
     answered(after.number, l.count as u64, first.seq.0 as u64);
