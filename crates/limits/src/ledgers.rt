@@ -11,10 +11,10 @@ use accept::Accepted;
 use address::Address;
 use address::Port;
 use address::Seq;
+use answer::Reply;
 use ledger::Ledger;
 use ledger::Leg;
 use ledger::Standing;
-use answer::Reply;
 use route::Table;
 use route::Target;
 
