@@ -1,5 +1,5 @@
 // Charts, read and written.
-use crate::frames::at;
+use crate::frames::address;
 use crate::frames::bytes;
 use crate::frames::report_written;
 use crate::script::answered;
@@ -44,7 +44,7 @@ fn put_nodes(out: &mut [u8; 2000], count: u8, label: u8) -> usize
     at
 }
 
-// The link at a place, 1 to 47 or more: from node 0 to 1, 1 to 2 and so on, 15 to 0, and round again by other ports.
+// The link at a place: from node 0 to 1, 1 to 2 and so on, 15 to 0, and round again by other ports.
 fn link_bytes(i: u8) -> [u8; 12] {
     let port = 1 + 2 * (i / 16);
     [
@@ -93,11 +93,16 @@ fn read_start(chart: &[u8; 2000], n: u16) -> ChartRead {
     chart_read::read_chart(&all[..long])
 }
 
+// What the built chart is read as.
+fn built(nodes: u16, links: u16, label: u16, to: u16) -> ChartRead {
+    let mut chart = [b'a'; 2000];
+    let n = put_built(&mut chart, nodes, links, label, to);
+    read_start(&chart, n)
+}
+
 // C nodes links label: number, place, nodes
 pub fn read_built(v: &[u16; 64]) {
-    let mut chart = [b'a'; 2000];
-    let n = put_built(&mut chart, v[0], v[1], v[2], 1);
-    report(read_start(&chart, n));
+    report(built(v[0], v[1], v[2], 1));
 }
 
 fn station(node: u16) -> Station {
@@ -107,6 +112,7 @@ fn station(node: u16) -> Station {
     }
 }
 
+// A node of brigade 9, its label one letter over and over.
 fn node(number: u16, length: u16, letter: u16) -> ChartNode {
     ChartNode {
         station: station(number),
@@ -146,6 +152,7 @@ fn write_into(nodes: Nodes, links: Links, from: u16, to: u16, room: u16) {
     put_into(c, room);
 }
 
+// Writes a chart into a buffer of a length.
 fn put_into(c: Chart, room: u16) {
     let mut out = [0u8; 1065];
     let n = taken(room, &out);
@@ -156,8 +163,13 @@ fn put_into(c: Chart, room: u16) {
 // from 9/a-node/a-port to 9/b-node/b-port; the question is from 9/node to 9/to-node.
 pub fn write(v: &[u16; 64]) {
     let ns = nodes(v[0], node(v[4], v[2], v[3]));
-    let ls = links(v[1], at(9, v[5], v[6]), at(9, v[7], v[8]));
-    write_into(ns, ls, v[4], v[9], v[10]);
+    write_into(
+        ns,
+        links(v[1], address(v, 5), address(v, 7)),
+        v[4],
+        v[9],
+        v[10],
+    );
 }
 
 fn least(n: u16, most: u16) -> u16 {
@@ -182,9 +194,7 @@ fn counted(c: Chart, nodes: u16, links: u16) -> Chart {
 
 // The built chart as values, with the counts that were asked for.
 pub fn built_chart(nodes: u16, links: u16, label: u16, to: u16) -> Chart {
-    let mut chart = [b'a'; 2000];
-    let n = put_built(&mut chart, least(nodes, 16), least(links, 48), label, to);
-    let read = read_start(&chart, n);
+    let read = built(least(nodes, 16), least(links, 48), label, to);
     counted(read.chart, nodes, links)
 }
 

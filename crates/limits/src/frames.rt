@@ -17,6 +17,11 @@ pub fn at(brigade: u16, node: u16, port: u16) -> Address {
     }
 }
 
+// The address of brigade 9 whose node and port stand at a place of the line's numbers.
+pub fn address(v: &[u16; 64], place: usize) -> Address {
+    at(9, v[place % 64], v[(place % 64 + 1) % 64])
+}
+
 // 63 destinations, all different: 9/20/1, 9/21/1 and so on.
 pub fn places() -> [Address; 63] {
     let mut all = [at(9, 20, 1); 63];
@@ -30,7 +35,7 @@ pub fn places() -> [Address; 63] {
 
 // The fixed fields of a `w` line.
 fn fixed(v: &[u16; 64]) -> Fixed {
-    let source = at(9, v[5], v[6]);
+    let source = address(v, 5);
     Fixed {
         source,
         count: byte(v[0]),
@@ -44,9 +49,9 @@ fn fixed(v: &[u16; 64]) -> Fixed {
 }
 
 // 63 destinations, of which the first is given.
-fn with_first(node: u16, port: u16) -> [Address; 63] {
+fn with_first(first: Address) -> [Address; 63] {
     let mut to = places();
-    to[0] = at(9, node, port);
+    to[0] = first;
     to
 }
 
@@ -70,8 +75,7 @@ pub fn report_written(answer: Written) {
 // w destinations contents priority version type node port sequence to-node to-port room: number, bytes, 0. The destinations after the first are 9/21/1,
 // 9/22/1 and so on.
 pub fn write(v: &[u16; 64]) {
-    let to = with_first(v[8], v[9]);
-    report_written(written_into(fixed(v), to, v[1], v[10]));
+    report_written(written_into(fixed(v), with_first(address(v, 8)), v[1], v[10]));
 }
 
 // What a frame is read as: the number, how many destinations, how many bytes of contents.

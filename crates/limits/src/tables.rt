@@ -35,6 +35,7 @@ pub fn table(node: u16, count: u16, place: u16, entry: Entry) -> Table {
     }
 }
 
+// An entry, on where the last number is 1.
 pub fn entry(target: Target, port: u16, on: u16) -> Entry {
     Entry {
         target,
@@ -43,6 +44,7 @@ pub fn entry(target: Target, port: u16, on: u16) -> Entry {
     }
 }
 
+// The number, 1 where it is local, and the port.
 fn report(choice: Choice) {
     match choice {
         Choice::Local(p) => answered(0, 1, p.0 as u64),
@@ -51,8 +53,14 @@ fn report(choice: Choice) {
     }
 }
 
+// The table of a `t` line.
+fn asked_table(v: &[u16; 64]) -> Table {
+    table(v[0], v[1], v[2], entry(target(v[3], v[4]), v[5], v[6]))
+}
+
 // t own-node entries place kind entry-node out-port on to-brigade to-node to-port arrival: number, 1 where local, port
 pub fn choose(v: &[u16; 64]) {
-    let t = table(v[0], v[1], v[2], entry(target(v[3], v[4]), v[5], v[6]));
-    report(route::choose(t, at(v[7], v[8], v[9]), Port(byte(v[10]))));
+    let to = at(v[7], v[8], v[9]);
+    let arrival = Port(byte(v[10]));
+    report(route::choose(asked_table(v), to, arrival));
 }
