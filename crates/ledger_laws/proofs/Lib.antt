@@ -2,4 +2,3 @@ pub mod Rules
 pub mod Places
 pub mod Keeps
 pub mod Promises
-pub mod Cases

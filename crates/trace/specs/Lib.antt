@@ -1,3 +1,2 @@
 pub mod Trace
 pub mod Promises
-pub mod Cases

@@ -1,0 +1,4 @@
+pub mod Questions
+pub mod Values
+pub mod Rows
+pub mod Slip

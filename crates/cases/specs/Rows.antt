@@ -1,0 +1,73 @@
+-- Document 01's cases at the edges, P1 to P14: one table, and the one statement of it. A case more is a row more. proofs/Cases.antt has the theorem.
+use Prim.Native.Nat.{ℕ}
+use mathlib.Core.Path.{_≡_}
+use mathlib.Core.List.{List, [], _∷_, List·Memᴰ}
+use Rattle.route.specs.declared.Choice.the-variants.{Local, Out, Refused}
+use Rattle.ledger.specs.declared.Standing.the-variants.{Open, Acknowledged, TimedOut}
+use Rattle.answer.specs.declared.Reply.the-variants.{Ack}
+use Rattle.ledger_laws.specs.Calls.{answering, ticking}
+use Rattle.chart.specs.Sample.{S}
+use Rattle.chart_read.specs.Reading.{refusedAt}
+use Rattle.search.specs.declared.Traced.the-variants.{Refused as NoRoute}
+use Rattle.cases.specs.Questions.{Asked, reading, listing, following, choosing, calling, Returned, Back, read, listed, told, chosen, called, lent, answerTo}
+use Rattle.cases.specs.Values.{port, seq, at, bytesS, off, to, T, two, one}
+
+-- what is asked, and what must come back
+pub record Case : Type 0 where
+  pub asked : Asked
+  pub meant : Back
+
+-- what comes back is what must
+abbrev pub Holds : Case → Type 0
+Holds c = answerTo (c .asked) ≡ c .meant
+
+-- ---- the table
+
+-- one row
+infix 4 _⟶_
+abbrev pub _⟶_ : Asked → Back → Case
+_⟶_ q b = record { asked = q; meant = b }
+
+-- a route is refused, and the buffer stays as it was lent
+abbrev pub refused : ℕ → List ℕ → Back
+refused k r = told (NoRoute k) (lent r)
+
+-- a call's number and count
+abbrev pub returns : ℕ → ℕ → Returned
+returns k n = record { number = k; count = n }
+
+unfoldable pub table : List Case
+table =
+    -- S itself, from its bytes
+    (reading bytesS ⟶ read (record { number = 0; place = 0; chart = S }))
+    -- P1: its four routes and no more
+    ∷ (listing bytesS ⟶ listed ((0 ∷ 2 ∷ []) ∷ (0 ∷ 4 ∷ 3 ∷ []) ∷ (1 ∷ 3 ∷ []) ∷ (1 ∷ 4 ∷ 2 ∷ []) ∷ []) 43)
+    -- P2: none after its last one
+    ∷ (following bytesS (1 ∷ 4 ∷ 2 ∷ []) ⟶ refused 43 (1 ∷ 4 ∷ 2 ∷ []))
+    -- P3: link 4 off
+    ∷ (listing (off 4 bytesS) ⟶ listed ((0 ∷ 2 ∷ []) ∷ (1 ∷ 3 ∷ []) ∷ []) 43)
+    -- P4: from 9/1 to itself
+    ∷ (listing (to 1 bytesS) ⟶ listed ([] ∷ []) 43)
+    -- P5: links 0 and 1 off
+    ∷ (listing (off 0 (off 1 bytesS)) ⟶ listed [] 43)
+    -- P6: 0 1 is no route
+    ∷ (following bytesS (0 ∷ 1 ∷ []) ⟶ refused 41 (0 ∷ 1 ∷ []))
+    -- P7 to P10: T
+    ∷ (choosing T (at 9 20 5) (port 0) ⟶ chosen (Out (port 3)))
+    ∷ (choosing T (at 9 20 5) (port 3) ⟶ chosen (Out (port 4)))
+    ∷ (choosing T (at 12 7 1) (port 4) ⟶ chosen (Refused 52))
+    ∷ (choosing T (at 9 1 6) (port 0) ⟶ chosen (Local (port 6)))
+    ∷ (choosing T (at 9 1 6) (port 3) ⟶ chosen (Local (port 6)))
+    -- P11: an acknowledgement settles the second leg only
+    ∷ (calling (two 3 Open) (answering (at 9 20 1) (at 9 2 5) (seq 7) Ack ∷ []) ⟶ called (returns 0 0 ∷ []) (two 0 Acknowledged))
+    -- P12: two ticks, the second of which times the leg out, and an acknowledgement that comes too late
+    ∷ (calling (one 2 Open) (ticking ∷ ticking ∷ answering (at 9 20 1) (at 9 1 5) (seq 7) Ack ∷ []) ⟶ called (returns 0 0 ∷ returns 0 1 ∷ returns 64 0 ∷ []) (one 0 TimedOut))
+    -- P13: the empty chart
+    ∷ (reading [] ⟶ read (refusedAt 31 0))
+    -- P14: node 1,024
+    ∷ (reading (1 ∷ 0 ∷ 3 ∷ 9 ∷ 4 ∷ 0 ∷ []) ⟶ read (refusedAt 24 0))
+    ∷ []
+
+-- every case of the table holds
+abbrev pub AllHold : Type 0
+AllHold = (c : Case) → List·Memᴰ c table → Holds c

@@ -1,0 +1,94 @@
+-- The values that document 01's cases speak of: the chart S in bytes and its variants, the table T, and two ledgers.
+use Prim.Native.Nat.{ℕ, _+_, _*_}
+use mathlib.Core.Bool.{true, false}
+use mathlib.Core.List.{List, [], _∷_, _++_}
+use lib.ListN.{replicate, set}
+use Rattle.address.specs.declared.Node.{Node}
+use Rattle.address.specs.declared.Port.{Port}
+use Rattle.address.specs.declared.Seq.{Seq}
+use Rattle.address.specs.declared.Address.{Address}
+use Rattle.route.specs.declared.Target.the-variants.{One, Brigade, Everything}
+use Rattle.route.specs.declared.Table.{Table}
+use Rattle.route.specs.Route.{noEntry}
+use Rattle.ledger.specs.declared.Standing.{Standing}
+use Rattle.ledger.specs.declared.Standing.the-variants.{Open, Acknowledged, TimedOut}
+use Rattle.ledger.specs.declared.Leg.{Leg}
+use Rattle.ledger.specs.declared.Ledger.{Ledger}
+use Rattle.ledger.specs.Rules.{noLeg}
+
+-- a port, a sequence number and an address, from their numbers
+abbrev pub port : ℕ → Port
+port p = record { 0 = p }
+
+abbrev pub seq : ℕ → Seq
+seq n = record { 0 = n }
+
+abbrev pub at : ℕ → ℕ → ℕ → Address
+at b n p = record { brigade = b; node = record { 0 = n }; port = port p }
+
+-- ---- the chart S
+
+-- four nodes; the second and the third have one label, Hill
+abbrev pub nodesS : List ℕ
+nodesS =
+    1 ∷ 0 ∷ 10 ∷ 9 ∷ 0 ∷ 1 ∷ 67 ∷ 111 ∷ 110 ∷ 116 ∷ 114 ∷ 111 ∷ 108
+    ∷ 1 ∷ 0 ∷ 7 ∷ 9 ∷ 0 ∷ 20 ∷ 72 ∷ 105 ∷ 108 ∷ 108
+    ∷ 1 ∷ 0 ∷ 7 ∷ 9 ∷ 0 ∷ 21 ∷ 72 ∷ 105 ∷ 108 ∷ 108
+    ∷ 1 ∷ 0 ∷ 7 ∷ 9 ∷ 0 ∷ 30 ∷ 81 ∷ 117 ∷ 97 ∷ 121
+    ∷ []
+
+-- six links, the last one off
+abbrev pub linksS : List ℕ
+linksS =
+    2 ∷ 0 ∷ 9 ∷ 9 ∷ 0 ∷ 1 ∷ 2 ∷ 9 ∷ 0 ∷ 20 ∷ 1 ∷ 1
+    ∷ 2 ∷ 0 ∷ 9 ∷ 9 ∷ 0 ∷ 1 ∷ 3 ∷ 9 ∷ 0 ∷ 21 ∷ 1 ∷ 1
+    ∷ 2 ∷ 0 ∷ 9 ∷ 9 ∷ 0 ∷ 20 ∷ 2 ∷ 9 ∷ 0 ∷ 30 ∷ 1 ∷ 1
+    ∷ 2 ∷ 0 ∷ 9 ∷ 9 ∷ 0 ∷ 21 ∷ 2 ∷ 9 ∷ 0 ∷ 30 ∷ 2 ∷ 1
+    ∷ 2 ∷ 0 ∷ 9 ∷ 9 ∷ 0 ∷ 20 ∷ 3 ∷ 9 ∷ 0 ∷ 21 ∷ 3 ∷ 1
+    ∷ 2 ∷ 0 ∷ 9 ∷ 9 ∷ 0 ∷ 1 ∷ 4 ∷ 9 ∷ 0 ∷ 30 ∷ 3 ∷ 0
+    ∷ []
+
+-- from 9/1 to 9/30
+abbrev pub questionS : List ℕ
+questionS = 3 ∷ 0 ∷ 6 ∷ 9 ∷ 0 ∷ 1 ∷ 9 ∷ 0 ∷ 30 ∷ []
+
+-- all of it
+unfoldable pub bytesS : List ℕ
+bytesS = nodesS ++ linksS ++ questionS
+
+-- a link's last byte, 0 for off: the nodes have 43 bytes, and a link's field 12
+abbrev pub off : ℕ → List ℕ → List ℕ
+off i bytes = set bytes (43 + 12 * i + 11) 0
+
+-- another node of brigade 9 in the question's second half, the last byte of the 124
+abbrev pub to : ℕ → List ℕ → List ℕ
+to n bytes = set bytes 123 n
+
+-- ---- the table T
+
+-- own 9/1: node 9/20 to port 2, off; brigade 9 to port 3, on; everything to port 4, on
+unfoldable pub T : Table
+T = record {
+  brigade = 9;
+  node = record { 0 = 1 };
+  count = 3;
+  entries =
+      record { target = One 9 (record { 0 = 20 }); port = port 2; on = false }
+      ∷ record { target = Brigade 9; port = port 3; on = true }
+      ∷ record { target = Everything; port = port 4; on = true }
+      ∷ replicate 29 noEntry;
+}
+
+-- ---- ledgers
+
+-- a leg with sequence number 7
+abbrev pub leg : Address → Address → ℕ → Standing → Leg
+leg from to ticks s = record { source = from; destination = to; seq = seq 7; ticks = ticks; standing = s }
+
+-- open legs of 9/1/5, and of 9/2/5 with these ticks and this standing, both to 9/20/1
+unfoldable pub two : ℕ → Standing → Ledger
+two ticks s = record { count = 2; legs = leg (at 9 1 5) (at 9 20 1) 3 Open ∷ leg (at 9 2 5) (at 9 20 1) ticks s ∷ replicate 126 noLeg }
+
+-- one leg of 9/1/5 with these ticks and this standing
+unfoldable pub one : ℕ → Standing → Ledger
+one ticks s = record { count = 1; legs = leg (at 9 1 5) (at 9 20 1) ticks s ∷ replicate 127 noLeg }

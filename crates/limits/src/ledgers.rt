@@ -1,0 +1,197 @@
+// The ledger of legs. Each call's numbers begin with a ledger: legs standing ticks sequence step.
+use crate::frames::address;
+use crate::frames::at;
+use crate::frames::written;
+use crate::script::answered;
+use crate::script::byte;
+use crate::script::taken;
+use crate::script::wide;
+use crate::tables::entry;
+use crate::tables::table;
+use accept::Accepted;
+use address::Address;
+use address::Port;
+use address::Seq;
+use answer::Reply;
+use ledger::Ledger;
+use ledger::Leg;
+use ledger::Outcome;
+use ledger::Standing;
+use route::Table;
+use route::Target;
+use tick::Ticked;
+
+// A standing by its number: 0 open, 1 acknowledged, 2 refused, 3 undeliverable, else timed out.
+fn standing(n: u16) -> Standing {
+    match n {
+        0 => Standing::Open,
+        1 => Standing::Acknowledged,
+        2 => Standing::Refused(0, 0),
+        3 => Standing::Undeliverable,
+        _ => Standing::TimedOut,
+    }
+}
+
+// The number of a standing; beside 2 for refused the reason set in thousands and the code in millions.
+fn standing_number(s: Standing) -> u64 {
+    match s {
+        Standing::Open => 0,
+        Standing::Acknowledged => 1,
+        Standing::Refused(set, code) => 2 + 1000 * (set as u64) + 1000000 * (code as u64),
+        Standing::Undeliverable => 3,
+        Standing::TimedOut => 4,
+    }
+}
+
+// The sequence number that many steps on.
+fn later(s: Seq, step: u16) -> Seq {
+    Seq(((s.0 as u32 + step as u32) % 65536) as u16)
+}
+
+// A row of legs: each sequence number is `step` above the one before.
+fn row(first: Leg, step: u16) -> [Leg; 128] {
+    let mut leg = first;
+    let mut all = [leg; 128];
+    let mut i: usize = 0;
+    while i < 128 {
+        all[i] = leg;
+        let s = later(leg.seq, step);
+        leg.seq = s;
+        i += 1;
+    }
+    all
+}
+
+// The first leg of a call's first five numbers.
+fn leg(v: &[u16; 64], source: Address, destination: Address) -> Leg {
+    let s = standing(v[1]);
+    Leg {
+        source,
+        destination,
+        seq: Seq(v[3]),
+        ticks: v[2],
+        standing: s,
+    }
+}
+
+// A ledger of these legs.
+fn held(count: u8, legs: [Leg; 128]) -> Ledger {
+    Ledger { count, legs }
+}
+
+// The ledger of a call's first five numbers, its legs between two addresses.
+fn ledger(v: &[u16; 64], source: Address, destination: Address) -> Ledger {
+    held(byte(v[0]), row(leg(v, source, destination), v[4]))
+}
+
+// The leg at a place of 128.
+fn leg_at(l: Ledger, place: usize) -> Leg {
+    let legs = l.legs;
+    legs[place % 128]
+}
+
+// The number, how many legs, and the last leg's ticks.
+fn report(after: Accepted) {
+    let l = after.ledger;
+    let last = leg_at(l, 127 + l.count as usize);
+    answered(after.number, after.added as u64, last.ticks as u64);
+}
+
+// Accepts the frame in the first n of 2,000 bytes.
+fn accepted(
+    before: Ledger,
+    frame: [u8; 2000],
+    n: u16,
+    arrival: u16,
+    t: Table,
+    ticks: u16,
+) -> Accepted {
+    let n = taken(n, &frame);
+    accept::accept(before, &frame[..n], Port(byte(arrival)), t, ticks)
+}
+
+// The table with one entry, for everything, of an `a` line.
+fn asked_table(v: &[u16; 64]) -> Table {
+    table(v[10], 1, 0, entry(Target::Everything, 2, v[9]))
+}
+
+// The frame of an `a` line, and how many bytes it has.
+fn asked_frame(v: &[u16; 64]) -> [u8; 2000] {
+    written(v[5], 0, v[6] == 1, 7)
+}
+
+fn size(destinations: u16) -> u16 {
+    10 + 3 * (destinations % 64)
+}
+
+// a ledger destinations ack ticks arrival on own-node: number, legs added, the last leg's ticks after it. The frame is from 9/1/5 with sequence number 7,
+// the ledger's legs are from there to 9/9/1, and the table has one entry, for everything.
+pub fn accept(v: &[u16; 64]) {
+    let before = ledger(v, at(9, 1, 5), at(9, 9, 1));
+    report(accepted(
+        before,
+        asked_frame(v),
+        size(v[5]),
+        v[8],
+        asked_table(v),
+        v[7],
+    ));
+}
+
+// The number, how many legs timed out, and the first leg's ticks.
+fn report_tick(after: Ticked) {
+    let l = after.ledger;
+    let first = leg_at(l, 0);
+    answered(after.number, after.ended as u64, first.ticks as u64);
+}
+
+// l ledger node port to-node to-port: number, legs timed out, the first leg's ticks after it
+pub fn tick(v: &[u16; 64]) {
+    report_tick(tick::tick(ledger(v, address(v, 5), address(v, 7))));
+}
+
+// An acknowledgement, or a refusal with its reason set and code.
+fn reply(nak: u16, set: u16, code: u16) -> Reply {
+    if nak == 0 {
+        Reply::Ack
+    } else {
+        Reply::Nak(byte(set), byte(code))
+    }
+}
+
+// The reply of an `n` line.
+fn asked_reply(v: &[u16; 64]) -> Reply {
+    reply(v[10], v[11], v[12])
+}
+
+// The number, and the first leg's standing and ticks.
+fn report_answer(after: Outcome) {
+    let l = after.ledger;
+    let first = leg_at(l, 0);
+    let s = first.standing;
+    answered(after.number, standing_number(s), first.ticks as u64);
+}
+
+// n ledger by-node by-port to-node to-port sequence nak set code: number, the first leg's standing, its ticks after it. Its legs are from 9/1/5 to 9/20/1.
+pub fn answer(v: &[u16; 64]) {
+    let before = ledger(v, at(9, 1, 5), at(9, 20, 1));
+    report_answer(answer::answer(
+        before,
+        address(v, 5),
+        address(v, 7),
+        Seq(v[9]),
+        asked_reply(v),
+    ));
+}
+
+// The number, how many legs, and the first leg's sequence number.
+fn report_clear(after: Outcome) {
+    let l = after.ledger;
+    let first = leg_at(l, 0);
+    answered(after.number, l.count as u64, first.seq.0 as u64);
+}
+
+// k ledger place: number, legs left, the first leg's sequence number
+pub fn clear(v: &[u16; 64]) {
+    report_clear(clear::clear(ledger(v, at(9, 1, 5), at(9, 20, 1)), wide(v[5])));
+}

@@ -1,0 +1,73 @@
+// Both sides of every limit of document 01. A line of standard input asks one thing: a letter for the call, its numbers, and words that say what is
+// tried. It is printed again with the number that came back and the two values beside it. The file stdout has what document 01 says; stdin explains
+// the letters.
+mod charts;
+mod frames;
+mod ledgers;
+mod script;
+mod tables;
+mod traces;
+
+use script::line_end;
+use script::numbers;
+
+// Frames and routes.
+fn answer_wire(letter: u8, v: &[u16; 64]) {
+    match letter {
+        b'w' => frames::write(v),
+        b'f' => frames::read(v),
+        b'F' => frames::read_written(v),
+        b't' => tables::choose(v),
+        _ => {}
+    }
+}
+
+// The ledger.
+fn answer_ledger(letter: u8, v: &[u16; 64]) {
+    match letter {
+        b'a' => ledgers::accept(v),
+        b'l' => ledgers::tick(v),
+        b'n' => ledgers::answer(v),
+        b'k' => ledgers::clear(v),
+        _ => {}
+    }
+}
+
+// Charts and their routes.
+fn answer_chart(letter: u8, v: &[u16; 64]) {
+    match letter {
+        b'c' => charts::read(v),
+        b'C' => charts::read_built(v),
+        b'v' => charts::write(v),
+        b'V' => charts::write_built(v),
+        b'1' => traces::first(v),
+        b'2' => traces::next(v),
+        _ => {}
+    }
+}
+
+// One line: printed, and answered where its letter is a call's.
+fn answer_line(line: &[u8]) {
+    io::write_all(1, line);
+    let v = numbers(line);
+    let letter = lists::byte_at(line, 0);
+    answer_wire(letter, &v);
+    answer_ledger(letter, &v);
+    answer_chart(letter, &v);
+    io::write_all(1, b"\n");
+}
+
+fn answer_all(text: &[u8]) {
+    let mut at = 0;
+    while at < text.len() {
+        let end = line_end(text, at);
+        answer_line(&text[at..end]);
+        at = end + 1;
+    }
+}
+
+fn main() {
+    let mut input = io::large_buffer();
+    let n = io::read_full(0, &mut input);
+    answer_all(&input[..n]);
+}
