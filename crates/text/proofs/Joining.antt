@@ -25,7 +25,6 @@ sets-joined s t l i h =
     sets-min t (sets l i s) (i + length s) k ∙ sets-append s l i t (i + length s) refl
 
 infixl 20 _▸_
-
 -- one text, and then another from where it ended
 pub _▸_ : {l m n : List ℕ} {a b c : ℕ} {s t : List ℕ} → Laid l a s m b → Laid m b t n c → Laid l a (s ++ t) n c
 _▸_ {l = l} {a = a} {s = s} {t = t} p q =
@@ -61,3 +60,10 @@ whole l a s h = record { bytes = refl; place = refl; short = h }
 pub finish : {l m o t : List ℕ} {a c : ℕ} (b : ℕ) (s : List ℕ) → Laid l a t (sets o b s) (min (b + length s) last) → Laid l a t m c
     → length o < last → Laid o b s m c
 finish b s p q h = record { bytes = q .bytes ∙ sym (p .bytes); place = q .place ∙ sym (p .place); short = h }
+
+-- where nothing is left of it, it is laid
+pub done : {l o t : List ℕ} {a : ℕ} (b : ℕ) (s : List ℕ) → t ≡ [] → a ≤ last → length o < last
+    → Laid l a t (sets o b s) (min (b + length s) last) → Laid o b s l a
+done {l} {o} {t} {a} b s e k h p =
+    let q : Laid l a [] (sets o b s) (min (b + length s) last) = rw e at p in
+    record { bytes = sym (q .bytes); place = omega (arith, q .place); short = h }
