@@ -33,6 +33,9 @@ pub const LONGEST_INPUT: usize = 4096;
 // No more route lines than this.
 pub const MOST_ROUTES: usize = 1000;
 
+// No sheet is longer: a buffer of this size is never refused.
+pub const LONGEST_SHEET: usize = 47129;
+
 // The node lines.
 fn put_nodes(out: &mut [u8], at: usize, nodes: Nodes) -> usize
     requires { ⌜ nodes .count ≤ 16 ⌝ }
@@ -123,14 +126,18 @@ fn put_sheet(out: &mut [u8], at: usize, bytes: &[u8]) -> usize
     put_read(out, at, r)
 }
 
-// Writes the sheet of an input at the start of out, and gives the number of bytes written; 10 where there is no room for all of it. It is written
-// into no room first, which tells its length.
+// Writes the sheet of an input at the start of out, and gives the number of bytes written; 10 where there is no room for all of it. In a buffer that may
+// be too short it is written into no room first, which tells its length.
 pub fn write_sheet(bytes: &[u8], out: &mut [u8]) -> Written
     ensures { λ r. ⌜ r ≡ sheetWriteOf (now (bytes .entry)) (length (now (out .entry))) ⌝ }
     ensures number { λ r. ⌜ writeNumber r ≡ sheetRefusal (now (bytes .entry)) (length (now (out .entry))) ⌝ }
     ensures count { λ r. ⌜ writeCount r ≡ unlessRefused (sheetRefusal (now (bytes .entry)) (length (now (out .entry)))) (length (sheetText (now (bytes .entry)))) 0 ⌝ }
     ensures buffer { λ _. ⌜ now (out .exit) ≡ sheetAfter (now (bytes .entry)) (now (out .entry)) ⌝ }
 {
+    if LONGEST_SHEET <= out.len() {
+        let all = put_sheet(out, 0, bytes);
+        return Written::Wrote(all);
+    }
     let n = put_sheet(&mut out[..0], 0, bytes);
     if out.len() < n {
         return Written::Refused(10);

@@ -6,65 +6,85 @@ use lib.ListN.{length}
 use Rattle.text.specs.Laying.{last}
 use Rattle.sheet.specs.Sheet.{sheetText}
 use Rattle.sheet.proofs.Laws.{sheet-refused, sheet-wrote, no-room, too-short, long-enough, as-lent}
+use Rattle.sheet.proofs.Promises.{sheet-short}
 use Rattle.sheet.proofs.write_sheet.Statement.{statement}
 use Rattle.sheet.proofs.write_sheet.Tie as tie
 use Rattle.sheet.proofs.write_sheet.Reads as reads
 use Rattle.sheet.proofs.write_sheet.Lts as lts
 use Rattle.sheet.proofs.put_sheet.Reads as put-sheet-reads
 
--- src/lib.rt:125:23
-slice-relend-prefix-put-sheet : tie.Need-slice-relend-prefix-put-sheet
-slice-relend-prefix-put-sheet c = search needs
-
--- src/lib.rt:125:23
-slice-aggregate-put-sheet : tie.Need-slice-aggregate-put-sheet
-slice-aggregate-put-sheet c = search needs
-
--- src/lib.rt:125:9
+-- src/lib.rt:138:13
 put-sheet-requires : tie.Need-put-sheet-requires
 put-sheet-requires c κs = search needs
 
--- src/lib.rt:127:9
+-- src/lib.rt:139:9
 same-length : tie.Need-same-length
 same-length c = search needs
 
--- src/lib.rt:127:9
+-- src/lib.rt:139:9
 returns : tie.Need-returns
 returns c =
     let a = c .before .before .before .before .before .before .before .args in
-    let out = a .out .now in
-    let first = c .before .before .before .put-sheet in
-    let h : length out < first .result = omega (arith, ap length (no-room out (first .ensures))) in
-    sheet-refused (a .bytes .now) out (too-short out (first .ensures) h) (no-room out (first .ensures))
+    let put = c .before .before .put-sheet in
+    let h : length (sheetText (a .bytes .now)) ≤ 47129 = sheet-short (a .bytes .now) (λ i. c .before .before .before .before .before .before .shared-slice-known .given i .fits) in
+    sheet-wrote (a .bytes .now) (a .out .now) (omega arith) (omega (arith, put .ensures .place)) (put .ensures)
 
--- src/lib.rt:129:5
+-- src/lib.rt:141:23
+slice-relend-prefix-put-sheet : tie.Need-slice-relend-prefix-put-sheet
+slice-relend-prefix-put-sheet c = search needs
+
+-- src/lib.rt:141:23
+slice-aggregate-put-sheet : tie.Need-slice-aggregate-put-sheet
+slice-aggregate-put-sheet c = search needs
+
+-- src/lib.rt:141:9
 put-sheet-requires-2 : tie.Need-put-sheet-requires-2
 put-sheet-requires-2 c κs = search needs
 
--- src/lib.rt:119:1
+-- src/lib.rt:143:9
 same-length-2 : tie.Need-same-length-2
 same-length-2 c = search needs
 
--- src/lib.rt:119:1
+-- src/lib.rt:143:9
 returns-2 : tie.Need-returns-2
 returns-2 c =
-    let a = c .before .before .before .before .before .before .before .before .before .before .before .args in
+    let a = c .before .before .before .before .before .before .before .before .args in
     let out = a .out .now in
-    let first = c .before .before .before .before .before .before .before .put-sheet in
+    let first = c .before .before .before .put-sheet2 in
+    let h : length out < first .result = omega (arith, ap length (no-room out (first .ensures))) in
+    sheet-refused (a .bytes .now) out (too-short out (first .ensures) h) (no-room out (first .ensures))
+
+-- src/lib.rt:145:5
+put-sheet-requires-3 : tie.Need-put-sheet-requires-3
+put-sheet-requires-3 c κs = search needs
+
+-- src/lib.rt:131:1
+same-length-3 : tie.Need-same-length-3
+same-length-3 c = search needs
+
+-- src/lib.rt:131:1
+returns-3 : tie.Need-returns-3
+returns-3 c =
+    let a = c .before .before .before .before .before .before .before .before .before .before .before .before .args in
+    let out = a .out .now in
+    let first = c .before .before .before .before .before .before .before .put-sheet2 in
     let h : first .result ≤ length out = omega (arith, ap length (no-room out (first .ensures))) in
     let g : length out < last = omega arith in
     let e : first .result ≡ length (sheetText (a .bytes .now)) = long-enough out (first .ensures) h g in
-    sheet-wrote (a .bytes .now) out (omega arith) e (as-lent out (first .ensures) (c .before .before .put-sheet2 .ensures))
+    sheet-wrote (a .bytes .now) out (omega arith) e (as-lent out (first .ensures) (c .before .before .put-sheet3 .ensures))
 
 pub write-sheet-spec : {M : Type 1} → statement M
 write-sheet-spec =
     tie.close
     (tie.spec
-    slice-relend-prefix-put-sheet
-    slice-aggregate-put-sheet
     put-sheet-requires
     same-length
     returns
+    slice-relend-prefix-put-sheet
+    slice-aggregate-put-sheet
     put-sheet-requires-2
     same-length-2
-    returns-2)
+    returns-2
+    put-sheet-requires-3
+    same-length-3
+    returns-3)
