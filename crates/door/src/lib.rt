@@ -2,6 +2,7 @@
 mod charts;
 mod envelopes;
 mod ledgers;
+mod sheets;
 mod tables;
 mod traces;
 
@@ -13,6 +14,7 @@ pub use ledgers::pz_accept;
 pub use ledgers::pz_answer;
 pub use ledgers::pz_clear;
 pub use ledgers::pz_tick;
+pub use sheets::pz_sheet;
 pub use tables::pz_choose;
 pub use traces::pz_first;
 pub use traces::pz_next;

@@ -10,7 +10,9 @@ use Rattle.lists.specs.Bytes.{Bytes}
 use Rattle.lists.specs.Places.{anyBelow, joined}
 use Rattle.lists.specs.Refusals.{unlessRefused}
 use Rattle.lists.proofs.Bools.{and-left, and-right}
+use Rattle.lists.specs.declared.Written.the-variants.{Wrote}
 use Rattle.lists.proofs.Runs.{joined-most}
+use Rattle.lists.proofs.Writing.{wrote-size}
 use Rattle.address.specs.declared.Address.{Address}
 use Rattle.address.specs.Address.{stationInRange, inRange}
 use Rattle.chart.specs.declared.ChartNode.{ChartNode}
@@ -33,7 +35,7 @@ use Rattle.sheet_lines.specs.Lines.{countsLine, questionLine, refusedLine}
 use Rattle.sheet_lines.proofs.Lengths.{node-long, link-long, counts-long, question-long, refused-long}
 use Rattle.sheet_routes.specs.RouteLines.{routeLine, listText}
 use Rattle.sheet_routes.proofs.Lengths.{route-long, list-long}
-use Rattle.sheet.specs.Sheet.{longLine, place, nodeLineAt, linkLineAt, chartText, readText, sheetText}
+use Rattle.sheet.specs.Sheet.{longLine, place, nodeLineAt, linkLineAt, chartText, readText, sheetText, sheetRefusal, sheetWriteOf}
 use Rattle.sheet.specs.Promises.{SheetShort}
 use Rattle.sheet.proofs.Laws.{read-accepted}
 
@@ -112,3 +114,11 @@ sheet-short bytes s = go (ltb 4096 (length bytes))
     go : (b : Bool) → length (cond b longLine (readText (chartReadOf bytes))) ≤ 47129
     go true = omega arith
     go false = read-long (chartReadOf bytes) (read-accepted bytes s (chartReadOf bytes) refl)
+
+-- so is what a writing gives
+pub wrote-short : (bytes : List ℕ) → Bytes bytes → (room n : ℕ) → sheetWriteOf bytes room ≡ Wrote n → n ≤ 47129
+unfolding sheetWriteOf
+wrote-short bytes s room n e =
+    let h : length (sheetText bytes) ≤ 47129 = sheet-short bytes s in
+    let k : n ≡ length (sheetText bytes) = wrote-size n (sheetRefusal bytes room) (length (sheetText bytes)) e .1 in
+    omega arith

@@ -10,7 +10,6 @@ use Rattle.chart.specs.Values.{noChart, nodeAt, linkAt, strayByte, nodeInRange,
 use Rattle.chart.specs.Numbers.{bothWritten, eitherUsed, nodeNumber, linkNumber, questionNumber}
 use Rattle.chart_read.specs.Fields.{bytesFrom, nodeIn, linkIn}
 use Rattle.chart_read.specs.Reading.{nothing, withNode, withLink, withQuestion, nodeLate, nodeBodyNumber, linkBodyNumber, questionBodyNumber, taking, bodyTaken, stepOf, walk, chartReadOf}
-use Rattle.chart_read.specs.Cases.{bytesS}
 use Rattle.routes.specs.Route.{also, only}
 use Rattle.routes.specs.All.{upFrom, linksFrom, via, over, tries, routes, tally, unmet, allFrom, allRoutes}
 use Rattle.chart_net.specs.Net.{stationAt, placeIn, crossed, farIn, chartNet, start, routesOf}
@@ -18,6 +17,22 @@ use Rattle.text.specs.Decimal.{digits}
 use Rattle.sheet_lines.specs.Lines.{stationText, endText, labelText, nodeLine, linkLine, countsLine, questionLine, refusedLine}
 use Rattle.sheet_routes.specs.RouteLines.{placesText, routeLine, listText}
 use Rattle.sheet.specs.Sheet.{nodeLineAt, linkLineAt, chartText, readText, sheetText}
+
+-- S in bytes: four nodes, six links and the question
+unfoldable pub bytesS : List ℕ
+bytesS =
+    1 ∷ 0 ∷ 10 ∷ 9 ∷ 0 ∷ 1 ∷ 67 ∷ 111 ∷ 110 ∷ 116 ∷ 114 ∷ 111 ∷ 108 ∷
+    1 ∷ 0 ∷ 7 ∷ 9 ∷ 0 ∷ 20 ∷ 72 ∷ 105 ∷ 108 ∷ 108 ∷
+    1 ∷ 0 ∷ 7 ∷ 9 ∷ 0 ∷ 21 ∷ 72 ∷ 105 ∷ 108 ∷ 108 ∷
+    1 ∷ 0 ∷ 7 ∷ 9 ∷ 0 ∷ 30 ∷ 81 ∷ 117 ∷ 97 ∷ 121 ∷
+    2 ∷ 0 ∷ 9 ∷ 9 ∷ 0 ∷ 1 ∷ 2 ∷ 9 ∷ 0 ∷ 20 ∷ 1 ∷ 1 ∷
+    2 ∷ 0 ∷ 9 ∷ 9 ∷ 0 ∷ 1 ∷ 3 ∷ 9 ∷ 0 ∷ 21 ∷ 1 ∷ 1 ∷
+    2 ∷ 0 ∷ 9 ∷ 9 ∷ 0 ∷ 20 ∷ 2 ∷ 9 ∷ 0 ∷ 30 ∷ 1 ∷ 1 ∷
+    2 ∷ 0 ∷ 9 ∷ 9 ∷ 0 ∷ 21 ∷ 2 ∷ 9 ∷ 0 ∷ 30 ∷ 2 ∷ 1 ∷
+    2 ∷ 0 ∷ 9 ∷ 9 ∷ 0 ∷ 20 ∷ 3 ∷ 9 ∷ 0 ∷ 21 ∷ 3 ∷ 1 ∷
+    2 ∷ 0 ∷ 9 ∷ 9 ∷ 0 ∷ 1 ∷ 4 ∷ 9 ∷ 0 ∷ 30 ∷ 3 ∷ 0 ∷
+    3 ∷ 0 ∷ 6 ∷ 9 ∷ 0 ∷ 1 ∷ 9 ∷ 0 ∷ 30 ∷
+    []
 
 -- the sheet of S
 unfoldable pub textS : List ℕ

@@ -5,7 +5,7 @@ use lib.ListN.{length}
 use Rattle.lists.specs.Bytes.{Bytes}
 use Rattle.sheet.specs.Sheet.{sheetText}
 
--- the counts 18 bytes, 16 nodes of 37, 48 links of 31, the question 26, 1,000 routes of 15 places in 45, and `more` in 5
+-- at most 18 bytes for the counts, 37 for each of 16 nodes, 31 for each of 48 links, 26 for the question, 45 for each of 1,000 routes, and 5 for the last line
 abbrev pub longestSheet : ℕ
 longestSheet = 47129
 
