@@ -1,11 +1,10 @@
 -- The sheet's text in its parts; and what a writer leaves that writes into no room first and then, if there is room, into the buffer.
-use Prim.Native.Nat.{ℕ, suc, zero, _+_, _<_, _≤_}
-use mathlib.Core.Path.{_≡_, refl, sym, ap, _∙_}
+use Prim.Native.Nat.{ℕ, _+_, _<_, _≤_}
+use mathlib.Core.Path.{_≡_, sym, ap, _∙_}
 use mathlib.Core.List.{List, [], _++_}
 use native.Mathlib.Omega.{arith}
 use borrow.Author.Tests.{lt-ltb, le-ltb}
-use lib.ListN.{length, drop, getD}
-use lib.Seq.{sets}
+use lib.ListN.{length, getD}
 use Rattle.lists.specs.Bytes.{Bytes}
 use Rattle.lists.specs.Places.{joined}
 use Rattle.lists.specs.Refusals.{unlessRefused}
@@ -14,7 +13,7 @@ use Rattle.lists.specs.declared.Written.{Written}
 use Rattle.lists.specs.declared.Written.the-variants.{Wrote, Refused}
 use Rattle.lists.proofs.Refusals.{refused}
 use Rattle.lists.proofs.Stores.{sets-past, sets-front}
-use Rattle.lists.proofs.Writing.{wrote-number, wrote-count, wrote-taken, wrote-refused}
+use Rattle.lists.proofs.Writing.{wrote-number, wrote-count}
 use Rattle.lists.proofs.Places.{joined-next, element-own}
 use Rattle.chart.specs.declared.ChartNode.{ChartNode}
 use Rattle.chart.specs.declared.Link.{Link}
@@ -27,7 +26,6 @@ use Rattle.chart_read.specs.Reading.{chartReadOf}
 use Rattle.chart_write.specs.Numbers.{chartNumber, Accepted}
 use Rattle.chart_write.proofs.Accepted.{accepted}
 use Rattle.chart_write.proofs.Promises.{write-undoes-read}
-use Rattle.search.specs.Answers.{placesNumber, routesIn}
 use Rattle.search.proofs.Telling.{places-right}
 use Rattle.chart_net.specs.Net.{start, routesOf}
 use Rattle.chart_net.specs.Arrays.{placeFor, endsFor, waysFor, routesKept}
@@ -37,7 +35,7 @@ use Rattle.text.specs.Laying.{Laid, last}
 use Rattle.text.proofs.Joining.{_▸_, said}
 use Rattle.sheet_lines.specs.Lines.{nodeLine, linkLine, refusedLine}
 use Rattle.sheet_routes.specs.Listing.{routesHeld}
-use Rattle.sheet.specs.Sheet.{longestInput, longLine, place, nodeLineAt, linkLineAt, chartText, readText, sheetText, sheetRefusal, sheetWriteOf, sheetAfter}
+use Rattle.sheet.specs.Sheet.{longLine, place, nodeLineAt, linkLineAt, chartText, readText, sheetText, sheetRefusal, sheetWriteOf, sheetAfter}
 
 -- ---- one line more
 

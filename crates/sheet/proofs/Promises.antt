@@ -1,8 +1,8 @@
 -- No sheet is longer than 47,129 bytes: every value of an accepted chart is in range, and a route has at most 15 links.
 use Prim.Native.Nat.{ℕ, suc, zero, _<_, _≤_}
 use mathlib.Core.Path.{_≡_, refl}
-use mathlib.Core.Bool.{Bool, true, false, cond, _&&_, not}
-use mathlib.Core.List.{List, _++_, List·Memᴰ}
+use mathlib.Core.Bool.{Bool, true, false, cond, not}
+use mathlib.Core.List.{List, List·Memᴰ}
 use native.Mathlib.Omega.{arith}
 use lib.ListN.{length, length-append}
 use lib.Dec.{ltb, leb}
@@ -31,7 +31,7 @@ use Rattle.routes.proofs.Laws.{all-sound}
 use Rattle.routes.proofs.Promises.{short-routes}
 use Rattle.chart_net.specs.Net.{chartNet, start, routesOf}
 use Rattle.chart_net.proofs.Promises.{accepted-ends}
-use Rattle.sheet_lines.specs.Lines.{countsLine, questionLine, refusedLine}
+use Rattle.sheet_lines.specs.Lines.{countsLine, refusedLine}
 use Rattle.sheet_lines.proofs.Lengths.{node-long, link-long, counts-long, question-long, refused-long}
 use Rattle.sheet_routes.specs.RouteLines.{routeLine, listText}
 use Rattle.sheet_routes.proofs.Lengths.{route-long, list-long}

@@ -2,7 +2,7 @@
 use Prim.Native.Nat.{ℕ}
 use mathlib.Core.Path.{_≡_, refl}
 use mathlib.Core.List.{List, [], _∷_}
-use lib.ListN.{length, replicate}
+use lib.ListN.{replicate}
 use Rattle.lists.specs.Places.{anyBelow, firstBelow, elementAt, firsts, row, joined}
 use Rattle.lists.specs.Refusals.{unlessRefused}
 use Rattle.address.specs.Address.{stationInRange, inRange, sameStation, sameAddress}

@@ -5,7 +5,8 @@ use mathlib.Core.List.{List, [], _∷_, _++_}
 use native.Mathlib.Omega.{arith}
 use lib.ListN.{length, take, length-take}
 use lib.Seq.{take-all}
-use Rattle.sheet_lines.specs.Lines.{labelText, blank}
+use Rattle.text.specs.Marks.{blank}
+use Rattle.sheet_lines.specs.Lines.{labelText}
 
 label-some : (l : List ℕ) → 0 < length l → blank ++ l ≡ labelText l
 unfolding labelText

@@ -9,18 +9,9 @@ use Rattle.address.specs.declared.Station.{Station}
 use Rattle.address.specs.declared.Address.{Address}
 use Rattle.chart.specs.declared.ChartNode.{ChartNode}
 use Rattle.chart.specs.declared.Link.{Link}
-use Rattle.chart.specs.Sample.{stationS, nodeS, linkS, hill}
+use Rattle.chart.specs.Sample.{nodeS, linkS, hill}
+use Rattle.text.specs.Marks.{blank, slash, lf}
 use Rattle.text.specs.Decimal.{digits, decimal}
-
--- a blank, a slash, a line feed
-abbrev pub blank : List ℕ
-blank = 32 ∷ []
-
-abbrev pub slash : List ℕ
-slash = 47 ∷ []
-
-abbrev pub lf : List ℕ
-lf = 10 ∷ []
 
 -- brigade/node
 unfoldable pub stationText : Station → List ℕ

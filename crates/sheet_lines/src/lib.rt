@@ -6,7 +6,6 @@ use chart::Link;
 use text::put_byte;
 use text::put_bytes;
 use text::put_number;
-ghost use mathlib.Core.Path.{_≡_};
 ghost use lib.ListN.{take};
 ghost use Rattle.text.specs.Laying.{Laid};
 ghost use Rattle.sheet_lines.specs.Lines.{stationText, endText, labelText, nodeLine, onOff, linkLine, countsLine, questionLine, refusedLine};

@@ -11,14 +11,14 @@ use lib.Dec.{ltb}
 use Rattle.lists.specs.Refusals.{unlessRefused}
 use Rattle.lists.proofs.Stores.{taken-front}
 use Rattle.routes.specs.Route.{only}
-use Rattle.routes.specs.All.{allRoutes, Answer, route, noMore, noRoute, firstOf, nextOf}
+use Rattle.routes.specs.All.{allRoutes, Answer, route, noMore, firstOf, nextOf}
 use Rattle.routes.specs.Promises.{Gives, ended, another}
 use Rattle.routes.proofs.Next.{gives-all}
 use Rattle.routes.proofs.Laws.{all-sound}
 use Rattle.routes.proofs.Promises.{short-routes}
 use Rattle.search.specs.declared.Traced.{Traced}
 use Rattle.search.specs.Net.{net}
-use Rattle.search.specs.Answers.{answerNumber, answerRoute, told, placesNumber, routesIn, firstIn, nextIn}
+use Rattle.search.specs.Answers.{answerNumber, answerRoute, told, routesIn, firstIn, nextIn}
 use Rattle.search.proofs.Leading.{never, sound}
 use Rattle.search.proofs.Telling.{too-many, no-place, places-right, first-numbered, next-numbered, first-room, next-room}
 use Rattle.text.specs.Laying.{Laid}

@@ -7,6 +7,7 @@ use native.Mathlib.Omega.{arith}
 use lib.ListN.{length, drop, getD, drop-of-length-le}
 use lib.Seq.{drop-cons}
 use Rattle.text.specs.Laying.{Laid}
+use Rattle.text.specs.Marks.{blank, lf}
 use Rattle.text.specs.Decimal.{decimal}
 use Rattle.text.proofs.Joining.{rest}
 use Rattle.sheet_routes.specs.RouteLines.{placesText, routeLine, endLine, moreLine, listText}
@@ -16,21 +17,21 @@ pub places-none : (r : List ℕ) (i : ℕ) → length r ≤ i → placesText (dr
 unfolding placesText
 places-none r i h = rw (drop-of-length-le r {i = i} h)
 
-place-more : (r : List ℕ) (i : ℕ) → i < length r → placesText (drop i r) ≡ 32 ∷ [] ++ decimal (getD r i 0) ++ placesText (drop (i + 1) r)
+place-more : (r : List ℕ) (i : ℕ) → i < length r → placesText (drop i r) ≡ blank ++ decimal (getD r i 0) ++ placesText (drop (i + 1) r)
 unfolding placesText
 place-more r i h = rw (add-one, drop-cons r i 0 h)
 
 -- one more place is laid
 pub place-on : {o m q : List ℕ} {a b c : ℕ} (r : List ℕ) (i : ℕ) → i < length r
-    → Laid o a (placesText (drop i r)) q c → Laid o a (32 ∷ [] ++ decimal (getD r i 0)) m b → Laid m b (placesText (drop (i + 1) r)) q c
+    → Laid o a (placesText (drop i r)) q c → Laid o a (blank ++ decimal (getD r i 0)) m b → Laid m b (placesText (drop (i + 1) r)) q c
 place-on r i h p w = rest (rw (place-more r i h) at p) w
 
-pub route-none : (r : List ℕ) → length r ≡ 0 → 45 ∷ 10 ∷ [] ≡ routeLine r
+pub route-none : (r : List ℕ) → length r ≡ 0 → 45 ∷ lf ≡ routeLine r
 unfolding routeLine
 route-none [] e = refl
 route-none (x ∷ r) e = absurd (omega arith)
 
-pub route-some : (r : List ℕ) → (length r ≡ 0 → ⊥) → decimal (getD r 0 0) ++ placesText (drop 1 r) ++ (10 ∷ []) ≡ routeLine r
+pub route-some : (r : List ℕ) → (length r ≡ 0 → ⊥) → decimal (getD r 0 0) ++ placesText (drop 1 r) ++ lf ≡ routeLine r
 unfolding routeLine
 route-some [] h = absurd (h refl)
 route-some (x ∷ r) h = refl

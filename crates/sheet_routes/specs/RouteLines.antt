@@ -2,17 +2,18 @@
 use Prim.Native.Nat.{ℕ, zero, suc}
 use mathlib.Core.Path.{_≡_, refl}
 use mathlib.Core.List.{List, [], _∷_, _++_}
+use Rattle.text.specs.Marks.{blank, lf}
 use Rattle.text.specs.Decimal.{digits, decimal}
 
 -- link places, each after a blank
 unfoldable pub placesText : List ℕ → List ℕ
 placesText [] = []
-placesText (i ∷ r) = 32 ∷ [] ++ decimal i ++ placesText r
+placesText (i ∷ r) = blank ++ decimal i ++ placesText r
 
 -- a route: its link places with a blank between two; `-` for the empty one
 unfoldable pub routeLine : List ℕ → List ℕ
-routeLine [] = 45 ∷ 10 ∷ []
-routeLine (i ∷ r) = decimal i ++ placesText r ++ (10 ∷ [])
+routeLine [] = 45 ∷ lf
+routeLine (i ∷ r) = decimal i ++ placesText r ++ lf
 
 -- "end", "more"
 abbrev pub endLine : List ℕ

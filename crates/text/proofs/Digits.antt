@@ -1,11 +1,9 @@
 -- The cases of a number's digits, at a count that is a variable.
 use Prim.Native.Nat.{ℕ, suc, zero, _+_, _<_, _≤_, _-_, _/_, _%_}
-use mathlib.Core.Path.{_≡_, refl, sym, ap, _∙_}
-use mathlib.Core.Bool.{cond, true, false}
-use mathlib.Core.List.{List, [], _∷_, _++_}
+use mathlib.Core.Path.{_≡_, refl}
+use mathlib.Core.List.{[], _∷_, _++_}
 use native.Mathlib.Omega.{arith}
 use borrow.Author.Tests.{lt-ltb, le-ltb}
-use lib.ListN.{length, length-append}
 use Rattle.text.specs.Decimal.{digits}
 
 pub digits-none : (k n : ℕ) → k ≡ 0 → digits k n ≡ []

@@ -1,6 +1,5 @@
 -- How many digits a number has.
 use Prim.Native.Nat.{ℕ, suc, zero, _+_, _<_, _≤_, _/_, _%_}
-use mathlib.Core.Path.{_≡_, refl}
 use mathlib.Core.Bool.{Bool, true, false, cond}
 use mathlib.Core.List.{List, [], _∷_, _++_}
 use native.Mathlib.Omega.{arith}

@@ -1,3 +1,4 @@
+-- `sheet::put_chart_routes` meets its contract: the arrays of an accepted chart have its routes.
 use mathlib.Core.Path.{_≡_, ap, _∙_}
 use borrow.Author.Needs.{needs}
 use Rattle.chart_net.specs.Arrays.{placeFor, endsFor, waysFor}
@@ -7,42 +8,28 @@ use Rattle.sheet_routes.specs.Listing.{routesHeld}
 use Rattle.sheet.proofs.Laws.{routes-listed}
 use Rattle.sheet.proofs.put_chart_routes.Statement.{statement}
 use Rattle.sheet.proofs.put_chart_routes.Tie as tie
-use Rattle.sheet.proofs.put_chart_routes.Reads as reads
-use Rattle.sheet.proofs.put_chart_routes.Lts as lts
-use Rattle.chart_net.proofs.ends_of.Reads as ends-of-reads
-use Rattle.chart_net.proofs.place_of.Reads as place-of-reads
-use Rattle.chart_net.proofs.ways_of.Reads as ways-of-reads
-use Rattle.sheet_routes.proofs.put_routes.Reads as put-routes-reads
 
--- src/lib.rt:73:9
 ends-of-requires : tie.Need-ends-of-requires
 ends-of-requires c κs = search needs
 
--- src/lib.rt:74:9
 ways-of-requires : tie.Need-ways-of-requires
 ways-of-requires c κs = search needs
 
--- src/lib.rt:75:9
 place-of-requires : tie.Need-place-of-requires
 place-of-requires c κs = search needs
 
--- src/lib.rt:76:9
 place-of-requires-2 : tie.Need-place-of-requires-2
 place-of-requires-2 c κs = search needs
 
--- src/lib.rt:77:37
 cast-put-routes : tie.Need-cast-put-routes
 cast-put-routes c = search needs
 
--- src/lib.rt:77:5
 put-routes-requires : tie.Need-put-routes-requires
 put-routes-requires c κs = search needs
 
--- src/lib.rt:67:1
 same-length : tie.Need-same-length
 same-length c = search needs
 
--- src/lib.rt:67:1
 returns : tie.Need-returns
 returns c =
     let s = c .before .before .before .before .before .before .before .before .before .before .before .before in

@@ -1,5 +1,6 @@
+-- `sheet::put_links` meets its contract. The loop's invariant: the lines of the links before i are laid.
 use Prim.Native.Nat.{_≤_, _<_, _-_}
-use mathlib.Core.Path.{_≡_, refl, sym, ap, _∙_}
+use mathlib.Core.Path.{_≡_, refl, sym, ap}
 use native.Mathlib.Omega.{arith}
 use borrow.Author.Needs.{needs}
 use lib.ListN.{length, length-map}
@@ -11,9 +12,6 @@ use Rattle.sheet.specs.Sheet.{place, linkLineAt}
 use Rattle.sheet.proofs.Laws.{link-more}
 use Rattle.sheet.proofs.put_links.Statement.{statement}
 use Rattle.sheet.proofs.put_links.Tie as tie
-use Rattle.sheet.proofs.put_links.Reads as reads
-use Rattle.sheet.proofs.put_links.Lts as lts
-use Rattle.sheet_lines.proofs.put_link.Reads as put-link-reads
 
 abbrev Inv-loop : tie.InvT-loop
 Inv-loop out₀ at links next₀ i₀ out next i =
@@ -26,35 +24,27 @@ abbrev μ-loop : tie.MeasureT-loop
 whole : (s : tie.Start Inv-loop μ-loop) → length (s .args .t3 .items) ≡ 48
 whole s = simp length-map at (s .good .1 .1 .0 .1 .1 .1 .0 .1 .0 .1)
 
--- src/lib.rt:58:5
 loop-holds : tie.Need-loop-holds Inv-loop μ-loop
 loop-holds c = (omega arith, refl, said (sym (joined-none (linkLineAt (c .before .args .t3)) place)) (nothing (omega arith) (omega arith)))
 
--- src/lib.rt:58:15
 cast-loop : tie.Need-cast-loop Inv-loop μ-loop
 cast-loop c = search needs
 
--- src/lib.rt:59:17
 mul-l : tie.Need-mul-l Inv-loop μ-loop
 mul-l c = search needs
 
--- src/lib.rt:59:17
 element-copy-out-l : tie.Need-element-copy-out-l Inv-loop μ-loop
 element-copy-out-l c = search needs
 
--- src/lib.rt:60:9
 put-link-requires : tie.Need-put-link-requires Inv-loop μ-loop
 put-link-requires c κs = search needs
 
--- src/lib.rt:61:9
 add-i : tie.Need-add-i Inv-loop μ-loop
 add-i c = search needs
 
--- src/lib.rt:58:5
 loop-less : tie.Need-loop-less Inv-loop μ-loop
 loop-less c = search needs
 
--- src/lib.rt:58:5
 loop-again : tie.Need-loop-again Inv-loop μ-loop
 loop-again c =
     let s = c .before .before .before .before .before .before .before .before in
@@ -63,11 +53,9 @@ loop-again c =
     let w : l .i < length (s .args .t3 .items) = omega (arith, whole s, s .pre) in
     (omega arith, omega (arith, put .kept .0), link-more (l .i) (s .args .t3) _ w (l .inv .2) (put .ensures))
 
--- src/lib.rt:52:1
 same-length : tie.Need-same-length Inv-loop μ-loop
 same-length c = search needs
 
--- src/lib.rt:52:1
 returns : tie.Need-returns Inv-loop μ-loop
 returns c =
     let s = c .before .before .before in

@@ -1,5 +1,6 @@
+-- `sheet::put_nodes` meets its contract. The loop's invariant: the lines of the nodes before i are laid.
 use Prim.Native.Nat.{_≤_, _<_, _-_}
-use mathlib.Core.Path.{_≡_, refl, sym, ap, _∙_}
+use mathlib.Core.Path.{_≡_, refl, sym, ap}
 use native.Mathlib.Omega.{arith}
 use borrow.Author.Needs.{needs}
 use lib.ListN.{length, length-map}
@@ -11,9 +12,6 @@ use Rattle.sheet.specs.Sheet.{place, nodeLineAt}
 use Rattle.sheet.proofs.Laws.{node-more}
 use Rattle.sheet.proofs.put_nodes.Statement.{statement}
 use Rattle.sheet.proofs.put_nodes.Tie as tie
-use Rattle.sheet.proofs.put_nodes.Reads as reads
-use Rattle.sheet.proofs.put_nodes.Lts as lts
-use Rattle.sheet_lines.proofs.put_node.Reads as put-node-reads
 
 abbrev Inv-loop : tie.InvT-loop
 Inv-loop out₀ at nodes next₀ i₀ out next i =
@@ -26,35 +24,27 @@ abbrev μ-loop : tie.MeasureT-loop
 whole : (s : tie.Start Inv-loop μ-loop) → length (s .args .t3 .items) ≡ 16
 whole s = simp length-map at (s .good .1 .1 .0 .1 .1 .1 .0 .1 .0 .1)
 
--- src/lib.rt:43:5
 loop-holds : tie.Need-loop-holds Inv-loop μ-loop
 loop-holds c = (omega arith, refl, said (sym (joined-none (nodeLineAt (c .before .args .t3)) place)) (nothing (omega arith) (omega arith)))
 
--- src/lib.rt:43:15
 cast-loop : tie.Need-cast-loop Inv-loop μ-loop
 cast-loop c = search needs
 
--- src/lib.rt:44:17
 mul-n : tie.Need-mul-n Inv-loop μ-loop
 mul-n c = search needs
 
--- src/lib.rt:44:17
 element-copy-out-n : tie.Need-element-copy-out-n Inv-loop μ-loop
 element-copy-out-n c = search needs
 
--- src/lib.rt:45:9
 put-node-requires : tie.Need-put-node-requires Inv-loop μ-loop
 put-node-requires c κs = search needs
 
--- src/lib.rt:46:9
 add-i : tie.Need-add-i Inv-loop μ-loop
 add-i c = search needs
 
--- src/lib.rt:43:5
 loop-less : tie.Need-loop-less Inv-loop μ-loop
 loop-less c = search needs
 
--- src/lib.rt:43:5
 loop-again : tie.Need-loop-again Inv-loop μ-loop
 loop-again c =
     let s = c .before .before .before .before .before .before .before .before in
@@ -63,11 +53,9 @@ loop-again c =
     let w : l .i < length (s .args .t3 .items) = omega (arith, whole s, s .pre) in
     (omega arith, omega (arith, put .kept .0), node-more (l .i) (s .args .t3) _ w (l .inv .2) (put .ensures))
 
--- src/lib.rt:37:1
 same-length : tie.Need-same-length Inv-loop μ-loop
 same-length c = search needs
 
--- src/lib.rt:37:1
 returns : tie.Need-returns Inv-loop μ-loop
 returns c =
     let s = c .before .before .before in

@@ -1,45 +1,33 @@
-use mathlib.Core.Path.{_≡_, ap, _∙_}
+-- `sheet::put_sheet` meets its contract: one line for a long input; a chart that is read is accepted.
+use mathlib.Core.Path.{ap, _∙_}
 use borrow.Author.Needs.{needs}
 use Rattle.text.proofs.Joining.{said}
 use Rattle.sheet.specs.Sheet.{readText}
 use Rattle.sheet.proofs.Laws.{read-accepted, input-long, input-read}
 use Rattle.sheet.proofs.put_sheet.Statement.{statement}
 use Rattle.sheet.proofs.put_sheet.Tie as tie
-use Rattle.sheet.proofs.put_sheet.Reads as reads
-use Rattle.sheet.proofs.put_sheet.Lts as lts
-use Rattle.chart_read.proofs.read_chart.Reads as read-chart-reads
-use Rattle.sheet.proofs.put_read.Reads as put-read-reads
-use Rattle.text.proofs.put_bytes.Reads as put-bytes-reads
 
--- src/lib.rt:111:35
 slice-aggregate-put-bytes : tie.Need-slice-aggregate-put-bytes
 slice-aggregate-put-bytes c = search needs
 
--- src/lib.rt:111:9
 put-bytes-requires : tie.Need-put-bytes-requires
 put-bytes-requires c κs = search needs
 
--- src/lib.rt:111:9
 same-length : tie.Need-same-length
 same-length c = search needs
 
--- src/lib.rt:111:9
 returns : tie.Need-returns
 returns c = said (input-long (c .before .before .before .before .before .before .before .before .args .bytes .now) (c .before .before .before .before .before .if1 .taken)) (c .before .before .put-bytes .ensures)
 
--- src/lib.rt:113:9
 read-chart-requires : tie.Need-read-chart-requires
 read-chart-requires c κs = search needs
 
--- src/lib.rt:114:5
 put-read-requires : tie.Need-put-read-requires
 put-read-requires c κs = read-accepted (c .before .before .before .before .before .args .bytes .now) (λ i. c .before .before .before .shared-slice-known .given i .fits) (c .before .read-chart .result) (c .before .read-chart .ensures)
 
--- src/lib.rt:107:1
 same-length-2 : tie.Need-same-length-2
 same-length-2 c = search needs
 
--- src/lib.rt:107:1
 returns-2 : tie.Need-returns-2
 returns-2 c = said (ap readText (c .before .before .before .before .read-chart .ensures) ∙ input-read (c .before .before .before .before .before .before .before .before .args .bytes .now) (c .before .before .before .before .before .if1 .left)) (c .before .before .put-read .ensures)
 

@@ -1,3 +1,5 @@
+-- `sheet::write_sheet` meets its contract: a buffer that holds any sheet is written at once; else a run into no room tells the length, and only a text
+-- that fits is written.
 use Prim.Native.Nat.{_≤_, _<_}
 use mathlib.Core.Path.{_≡_, ap}
 use native.Mathlib.Omega.{arith}
@@ -9,19 +11,13 @@ use Rattle.sheet.proofs.Laws.{sheet-refused, sheet-wrote, no-room, too-
 use Rattle.sheet.proofs.Promises.{sheet-short}
 use Rattle.sheet.proofs.write_sheet.Statement.{statement}
 use Rattle.sheet.proofs.write_sheet.Tie as tie
-use Rattle.sheet.proofs.write_sheet.Reads as reads
-use Rattle.sheet.proofs.write_sheet.Lts as lts
-use Rattle.sheet.proofs.put_sheet.Reads as put-sheet-reads
 
--- src/lib.rt:138:13
 put-sheet-requires : tie.Need-put-sheet-requires
 put-sheet-requires c κs = search needs
 
--- src/lib.rt:139:9
 same-length : tie.Need-same-length
 same-length c = search needs
 
--- src/lib.rt:139:9
 returns : tie.Need-returns
 returns c =
     let a = c .before .before .before .before .before .before .before .args in
@@ -29,23 +25,18 @@ returns c =
     let h : length (sheetText (a .bytes .now)) ≤ 47129 = sheet-short (a .bytes .now) (λ i. c .before .before .before .before .before .before .shared-slice-known .given i .fits) in
     sheet-wrote (a .bytes .now) (a .out .now) (omega arith) (omega (arith, put .ensures .place)) (put .ensures)
 
--- src/lib.rt:141:23
 slice-relend-prefix-put-sheet : tie.Need-slice-relend-prefix-put-sheet
 slice-relend-prefix-put-sheet c = search needs
 
--- src/lib.rt:141:23
 slice-aggregate-put-sheet : tie.Need-slice-aggregate-put-sheet
 slice-aggregate-put-sheet c = search needs
 
--- src/lib.rt:141:9
 put-sheet-requires-2 : tie.Need-put-sheet-requires-2
 put-sheet-requires-2 c κs = search needs
 
--- src/lib.rt:143:9
 same-length-2 : tie.Need-same-length-2
 same-length-2 c = search needs
 
--- src/lib.rt:143:9
 returns-2 : tie.Need-returns-2
 returns-2 c =
     let a = c .before .before .before .before .before .before .before .before .args in
@@ -54,15 +45,12 @@ returns-2 c =
     let h : length out < first .result = omega (arith, ap length (no-room out (first .ensures))) in
     sheet-refused (a .bytes .now) out (too-short out (first .ensures) h) (no-room out (first .ensures))
 
--- src/lib.rt:145:5
 put-sheet-requires-3 : tie.Need-put-sheet-requires-3
 put-sheet-requires-3 c κs = search needs
 
--- src/lib.rt:131:1
 same-length-3 : tie.Need-same-length-3
 same-length-3 c = search needs
 
--- src/lib.rt:131:1
 returns-3 : tie.Need-returns-3
 returns-3 c =
     let a = c .before .before .before .before .before .before .before .before .before .before .before .before .args in

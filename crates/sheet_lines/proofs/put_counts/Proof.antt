@@ -1,47 +1,34 @@
+-- `sheet_lines::put_counts` meets its contract: what the calls lay is joined in the line's order.
 use borrow.Author.Needs.{needs}
 use Rattle.text.proofs.Joining.{_▸_}
 use Rattle.sheet_lines.specs.Lines.{countsLine}
 use Rattle.sheet_lines.proofs.put_counts.Statement.{statement}
 use Rattle.sheet_lines.proofs.put_counts.Tie as tie
-use Rattle.sheet_lines.proofs.put_counts.Reads as reads
-use Rattle.sheet_lines.proofs.put_counts.Lts as lts
-use Rattle.text.proofs.put_byte.Reads as put-byte-reads
-use Rattle.text.proofs.put_bytes.Reads as put-bytes-reads
-use Rattle.text.proofs.put_number.Reads as put-number-reads
 
--- src/lib.rt:92:33
 slice-aggregate-put-bytes : tie.Need-slice-aggregate-put-bytes
 slice-aggregate-put-bytes c = search needs
 
--- src/lib.rt:92:9
 put-bytes-requires : tie.Need-put-bytes-requires
 put-bytes-requires c κs = search needs
 
--- src/lib.rt:93:9
 put-number-requires : tie.Need-put-number-requires
 put-number-requires c κs = search needs
 
--- src/lib.rt:94:33
 slice-aggregate-put-bytes-2 : tie.Need-slice-aggregate-put-bytes-2
 slice-aggregate-put-bytes-2 c = search needs
 
--- src/lib.rt:94:9
 put-bytes-requires-2 : tie.Need-put-bytes-requires-2
 put-bytes-requires-2 c κs = search needs
 
--- src/lib.rt:95:9
 put-number-requires-2 : tie.Need-put-number-requires-2
 put-number-requires-2 c κs = search needs
 
--- src/lib.rt:96:5
 put-byte-requires : tie.Need-put-byte-requires
 put-byte-requires c κs = search needs
 
--- src/lib.rt:89:1
 same-length : tie.Need-same-length
 same-length c = search needs
 
--- src/lib.rt:89:1
 returns : tie.Need-returns
 unfolding countsLine
 returns c =

@@ -1,50 +1,37 @@
+-- `sheet_lines::put_end` meets its contract: what the calls lay is joined in the line's order.
 use borrow.Author.Needs.{needs}
 use Rattle.text.proofs.Joining.{_▸_}
 use Rattle.sheet_lines.specs.Lines.{endText}
 use Rattle.sheet_lines.proofs.put_end.Statement.{statement}
 use Rattle.sheet_lines.proofs.put_end.Tie as tie
-use Rattle.sheet_lines.proofs.put_end.Reads as reads
-use Rattle.sheet_lines.proofs.put_end.Lts as lts
-use Rattle.text.proofs.put_byte.Reads as put-byte-reads
-use Rattle.text.proofs.put_number.Reads as put-number-reads
 
--- src/lib.rt:27:34
 cast-put-number : tie.Need-cast-put-number
 cast-put-number c = search needs
 
--- src/lib.rt:27:9
 put-number-requires : tie.Need-put-number-requires
 put-number-requires c κs = search needs
 
--- src/lib.rt:28:9
 put-byte-requires : tie.Need-put-byte-requires
 put-byte-requires c κs = search needs
 
--- src/lib.rt:29:34
 cast-put-number-2 : tie.Need-cast-put-number-2
 cast-put-number-2 c = search needs
 
--- src/lib.rt:29:9
 put-number-requires-2 : tie.Need-put-number-requires-2
 put-number-requires-2 c κs = search needs
 
--- src/lib.rt:30:9
 put-byte-requires-2 : tie.Need-put-byte-requires-2
 put-byte-requires-2 c κs = search needs
 
--- src/lib.rt:31:25
 cast-put-number-3 : tie.Need-cast-put-number-3
 cast-put-number-3 c = search needs
 
--- src/lib.rt:31:5
 put-number-requires-3 : tie.Need-put-number-requires-3
 put-number-requires-3 c κs = search needs
 
--- src/lib.rt:24:1
 same-length : tie.Need-same-length
 same-length c = search needs
 
--- src/lib.rt:24:1
 returns : tie.Need-returns
 unfolding endText
 returns c =

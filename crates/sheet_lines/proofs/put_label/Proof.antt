@@ -1,3 +1,4 @@
+-- `sheet_lines::put_label` meets its contract: nothing for an empty label, else a blank and its bytes.
 use mathlib.Core.Path.{sym}
 use native.Mathlib.Omega.{arith}
 use borrow.Author.Needs.{needs}
@@ -6,54 +7,39 @@ use Rattle.text.proofs.Joining.{nothing, said, _▸_}
 use Rattle.sheet_lines.proofs.Labels.{label-none, label-all, label-part}
 use Rattle.sheet_lines.proofs.put_label.Statement.{statement}
 use Rattle.sheet_lines.proofs.put_label.Tie as tie
-use Rattle.sheet_lines.proofs.put_label.Reads as reads
-use Rattle.sheet_lines.proofs.put_label.Lts as lts
-use Rattle.text.proofs.put_byte.Reads as put-byte-reads
-use Rattle.text.proofs.put_bytes.Reads as put-bytes-reads
 
--- src/lib.rt:40:9
 returns : tie.Need-returns
 returns c = let a = c .before .before .args in said (label-none (a .long) (a .t3) (c .if1 .taken)) (nothing (omega arith) (omega arith))
 
--- src/lib.rt:42:9
 put-byte-requires : tie.Need-put-byte-requires
 put-byte-requires c κs = search needs
 
--- src/lib.rt:44:37
 slice-aggregate-put-bytes : tie.Need-slice-aggregate-put-bytes
 slice-aggregate-put-bytes c = search needs
 
--- src/lib.rt:44:9
 put-bytes-requires : tie.Need-put-bytes-requires
 put-bytes-requires c κs = search needs
 
--- src/lib.rt:44:9
 same-length : tie.Need-same-length
 same-length c = search needs
 
--- src/lib.rt:44:9
 returns-2 : tie.Need-returns-2
 returns-2 c =
     let a = c .before .before .before .before .before .before .before .before .before .before .before .before .args in
     said (label-all (a .long) (a .t3) (omega arith) (omega arith)) (c .before .before .before .before .before .before .before .before .put-byte .ensures ▸ c .before .before .put-bytes .ensures)
 
--- src/lib.rt:46:26
 array-share-prefix-label : tie.Need-array-share-prefix-label
 array-share-prefix-label c = search needs
 
--- src/lib.rt:46:26
 slice-aggregate-put-bytes-2 : tie.Need-slice-aggregate-put-bytes-2
 slice-aggregate-put-bytes-2 c = let a = c .before .before .before .before .before .before .before .before .before .args in sym (length-take-le (a .long) (a .t3) (omega arith))
 
--- src/lib.rt:46:5
 put-bytes-requires-2 : tie.Need-put-bytes-requires-2
 put-bytes-requires-2 c κs = search needs
 
--- src/lib.rt:35:1
 same-length-2 : tie.Need-same-length-2
 same-length-2 c = search needs
 
--- src/lib.rt:35:1
 returns-3 : tie.Need-returns-3
 returns-3 c =
     let a = c .before .before .before .before .before .before .before .before .before .before .before .before .args in

@@ -1,52 +1,37 @@
+-- `sheet_lines::put_link` meets its contract: what the calls lay is joined in the line's order.
 use borrow.Author.Needs.{needs}
 use Rattle.text.proofs.Joining.{_▸_}
 use Rattle.sheet_lines.specs.Lines.{linkLine}
 use Rattle.sheet_lines.proofs.put_link.Statement.{statement}
 use Rattle.sheet_lines.proofs.put_link.Tie as tie
-use Rattle.sheet_lines.proofs.put_link.Reads as reads
-use Rattle.sheet_lines.proofs.put_link.Lts as lts
-use Rattle.sheet_lines.proofs.put_end.Reads as put-end-reads
-use Rattle.sheet_lines.proofs.put_on.Reads as put-on-reads
-use Rattle.text.proofs.put_byte.Reads as put-byte-reads
-use Rattle.text.proofs.put_number.Reads as put-number-reads
 
--- src/lib.rt:78:9
 put-number-requires : tie.Need-put-number-requires
 put-number-requires c κs = search needs
 
--- src/lib.rt:79:9
 put-byte-requires : tie.Need-put-byte-requires
 put-byte-requires c κs = search needs
 
--- src/lib.rt:80:9
 put-end-requires : tie.Need-put-end-requires
 put-end-requires c κs = search needs
 
--- src/lib.rt:81:9
 put-byte-requires-2 : tie.Need-put-byte-requires-2
 put-byte-requires-2 c κs = search needs
 
--- src/lib.rt:82:9
 put-end-requires-2 : tie.Need-put-end-requires-2
 put-end-requires-2 c κs = search needs
 
--- src/lib.rt:83:9
 put-byte-requires-3 : tie.Need-put-byte-requires-3
 put-byte-requires-3 c κs = search needs
 
--- src/lib.rt:84:9
 put-on-requires : tie.Need-put-on-requires
 put-on-requires c κs = search needs
 
--- src/lib.rt:85:5
 put-byte-requires-4 : tie.Need-put-byte-requires-4
 put-byte-requires-4 c κs = search needs
 
--- src/lib.rt:73:1
 same-length : tie.Need-same-length
 same-length c = search needs
 
--- src/lib.rt:73:1
 returns : tie.Need-returns
 unfolding linkLine
 returns c =

@@ -1,40 +1,28 @@
+-- `sheet_lines::put_node` meets its contract: what the calls lay is joined in the line's order.
 use borrow.Author.Needs.{needs}
 use Rattle.text.proofs.Joining.{_▸_}
 use Rattle.sheet_lines.specs.Lines.{nodeLine}
 use Rattle.sheet_lines.proofs.put_node.Statement.{statement}
 use Rattle.sheet_lines.proofs.put_node.Tie as tie
-use Rattle.sheet_lines.proofs.put_node.Reads as reads
-use Rattle.sheet_lines.proofs.put_node.Lts as lts
-use Rattle.sheet_lines.proofs.put_label.Reads as put-label-reads
-use Rattle.sheet_lines.proofs.put_station.Reads as put-station-reads
-use Rattle.text.proofs.put_byte.Reads as put-byte-reads
-use Rattle.text.proofs.put_number.Reads as put-number-reads
 
--- src/lib.rt:55:9
 put-number-requires : tie.Need-put-number-requires
 put-number-requires c κs = search needs
 
--- src/lib.rt:56:9
 put-byte-requires : tie.Need-put-byte-requires
 put-byte-requires c κs = search needs
 
--- src/lib.rt:57:9
 put-station-requires : tie.Need-put-station-requires
 put-station-requires c κs = search needs
 
--- src/lib.rt:58:9
 put-label-requires : tie.Need-put-label-requires
 put-label-requires c κs = search needs
 
--- src/lib.rt:59:5
 put-byte-requires-2 : tie.Need-put-byte-requires-2
 put-byte-requires-2 c κs = search needs
 
--- src/lib.rt:50:1
 same-length : tie.Need-same-length
 same-length c = search needs
 
--- src/lib.rt:50:1
 returns : tie.Need-returns
 unfolding nodeLine
 returns c =

@@ -1,47 +1,34 @@
+-- `sheet_lines::put_refused` meets its contract: what the calls lay is joined in the line's order.
 use borrow.Author.Needs.{needs}
 use Rattle.text.proofs.Joining.{_▸_}
 use Rattle.sheet_lines.specs.Lines.{refusedLine}
 use Rattle.sheet_lines.proofs.put_refused.Statement.{statement}
 use Rattle.sheet_lines.proofs.put_refused.Tie as tie
-use Rattle.sheet_lines.proofs.put_refused.Reads as reads
-use Rattle.sheet_lines.proofs.put_refused.Lts as lts
-use Rattle.text.proofs.put_byte.Reads as put-byte-reads
-use Rattle.text.proofs.put_bytes.Reads as put-bytes-reads
-use Rattle.text.proofs.put_number.Reads as put-number-reads
 
--- src/lib.rt:114:33
 slice-aggregate-put-bytes : tie.Need-slice-aggregate-put-bytes
 slice-aggregate-put-bytes c = search needs
 
--- src/lib.rt:114:9
 put-bytes-requires : tie.Need-put-bytes-requires
 put-bytes-requires c κs = search needs
 
--- src/lib.rt:115:9
 put-number-requires : tie.Need-put-number-requires
 put-number-requires c κs = search needs
 
--- src/lib.rt:116:33
 slice-aggregate-put-bytes-2 : tie.Need-slice-aggregate-put-bytes-2
 slice-aggregate-put-bytes-2 c = search needs
 
--- src/lib.rt:116:9
 put-bytes-requires-2 : tie.Need-put-bytes-requires-2
 put-bytes-requires-2 c κs = search needs
 
--- src/lib.rt:117:9
 put-number-requires-2 : tie.Need-put-number-requires-2
 put-number-requires-2 c κs = search needs
 
--- src/lib.rt:118:5
 put-byte-requires : tie.Need-put-byte-requires
 put-byte-requires c κs = search needs
 
--- src/lib.rt:111:1
 same-length : tie.Need-same-length
 same-length c = search needs
 
--- src/lib.rt:111:1
 returns : tie.Need-returns
 unfolding refusedLine
 returns c =

@@ -1,38 +1,28 @@
+-- `sheet_lines::put_station` meets its contract: what the calls lay is joined in the line's order.
 use borrow.Author.Needs.{needs}
 use Rattle.text.proofs.Joining.{_▸_}
 use Rattle.sheet_lines.specs.Lines.{stationText}
 use Rattle.sheet_lines.proofs.put_station.Statement.{statement}
 use Rattle.sheet_lines.proofs.put_station.Tie as tie
-use Rattle.sheet_lines.proofs.put_station.Reads as reads
-use Rattle.sheet_lines.proofs.put_station.Lts as lts
-use Rattle.text.proofs.put_byte.Reads as put-byte-reads
-use Rattle.text.proofs.put_number.Reads as put-number-reads
 
--- src/lib.rt:18:34
 cast-put-number : tie.Need-cast-put-number
 cast-put-number c = search needs
 
--- src/lib.rt:18:9
 put-number-requires : tie.Need-put-number-requires
 put-number-requires c κs = search needs
 
--- src/lib.rt:19:9
 put-byte-requires : tie.Need-put-byte-requires
 put-byte-requires c κs = search needs
 
--- src/lib.rt:20:25
 cast-put-number-2 : tie.Need-cast-put-number-2
 cast-put-number-2 c = search needs
 
--- src/lib.rt:20:5
 put-number-requires-2 : tie.Need-put-number-requires-2
 put-number-requires-2 c κs = search needs
 
--- src/lib.rt:15:1
 same-length : tie.Need-same-length
 same-length c = search needs
 
--- src/lib.rt:15:1
 returns : tie.Need-returns
 unfolding stationText
 returns c =

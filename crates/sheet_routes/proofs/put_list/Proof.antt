@@ -1,3 +1,5 @@
+-- `sheet_routes::put_list` meets its contract. The loop's invariant (`Going`): what is held is the list's answer, and the text of the routes left,
+-- laid from here, gives the whole.
 use Prim.Native.Nat.{_+_, min}
 use mathlib.Core.Path.{_≡_, refl, sym, _∙_}
 use native.Mathlib.Omega.{arith}
@@ -11,14 +13,6 @@ use Rattle.sheet_routes.specs.RouteLines.{listText}
 use Rattle.sheet_routes.proofs.Going.{Going, going-start, going-on, going-ends, going-over}
 use Rattle.sheet_routes.proofs.put_list.Statement.{statement}
 use Rattle.sheet_routes.proofs.put_list.Tie as tie
-use Rattle.sheet_routes.proofs.put_list.Reads as reads
-use Rattle.sheet_routes.proofs.put_list.Lts as lts
-use Rattle.search.proofs.first_route.Reads as first-route-reads
-use Rattle.search.proofs.next_route.Reads as next-route-reads
-use Rattle.sheet_routes.proofs.put_last.Reads as put-last-reads
-use Rattle.sheet_routes.proofs.put_more.Reads as put-more-reads
-use Rattle.sheet_routes.proofs.put_route.Reads as put-route-reads
-use Rattle.sheet_routes.proofs.route_length.Reads as route-length-reads
 
 abbrev Inv-loop : tie.InvT-loop
 Inv-loop out₀ at ends ways links from to most buf₀ n₀ next₀ left₀ out buf n next left =
@@ -28,19 +22,15 @@ Inv-loop out₀ at ends ways links from to most buf₀ n₀ next₀ left₀ out 
 abbrev μ-loop : tie.MeasureT-loop
 μ-loop out₀ at ends ways links from to most buf₀ n₀ next₀ left₀ out buf n next left = left
 
--- src/lib.rt:84:71
 slice-aggregate-first-route : tie.Need-slice-aggregate-first-route Inv-loop μ-loop
 slice-aggregate-first-route c = search needs
 
--- src/lib.rt:84:30
 first-route-requires : tie.Need-first-route-requires Inv-loop μ-loop
 first-route-requires c κs = search needs
 
--- src/lib.rt:84:9
 route-length-requires : tie.Need-route-length-requires Inv-loop μ-loop
 route-length-requires c κs = search needs
 
--- src/lib.rt:87:5
 loop-holds : tie.Need-loop-holds Inv-loop μ-loop
 loop-holds c =
     let s = c .before .before .before .before .before in
@@ -53,15 +43,12 @@ loop-holds c =
           (whole _ _ _ (omega arith)),
     )
 
--- src/lib.rt:89:13
 put-last-requires : tie.Need-put-last-requires Inv-loop μ-loop
 put-last-requires c κs = search needs
 
--- src/lib.rt:89:13
 same-length : tie.Need-same-length Inv-loop μ-loop
 same-length c = search needs
 
--- src/lib.rt:89:13
 returns : tie.Need-returns Inv-loop μ-loop
 returns c =
     let a = c .before .before .before .before .before .before .before .before .before .before .before .before .args in
@@ -69,39 +56,30 @@ returns c =
     let e = going-ends (a .ends) (a .ways) (a .links) (a .from) (a .to) (at .inv .2) (c .before .before .before .before .if1 .taken) in
     finish _ _ (at .inv .2 .laid) (said e (c .before .before .put-last .ensures)) (omega arith)
 
--- src/lib.rt:91:37
 array-share-prefix-buf : tie.Need-array-share-prefix-buf Inv-loop μ-loop
 array-share-prefix-buf c = search needs
 
--- src/lib.rt:91:37
 slice-aggregate-put-route : tie.Need-slice-aggregate-put-route Inv-loop μ-loop
 slice-aggregate-put-route c = let at = c .before .before .before .before .loop in sym (length-take-le (at .n) (at .buf) (omega arith))
 
--- src/lib.rt:91:9
 put-route-requires : tie.Need-put-route-requires Inv-loop μ-loop
 put-route-requires c κs = search needs
 
--- src/lib.rt:92:66
 slice-aggregate-next-route : tie.Need-slice-aggregate-next-route Inv-loop μ-loop
 slice-aggregate-next-route c = search needs
 
--- src/lib.rt:92:26
 next-route-requires : tie.Need-next-route-requires Inv-loop μ-loop
 next-route-requires c κs = search needs
 
--- src/lib.rt:92:9
 route-length-requires-2 : tie.Need-route-length-requires-2 Inv-loop μ-loop
 route-length-requires-2 c κs = search needs
 
--- src/lib.rt:93:9
 sub-left : tie.Need-sub-left Inv-loop μ-loop
 sub-left c = search needs
 
--- src/lib.rt:87:5
 loop-less : tie.Need-loop-less Inv-loop μ-loop
 loop-less c = search needs
 
--- src/lib.rt:87:5
 loop-again : tie.Need-loop-again Inv-loop μ-loop
 loop-again c =
     let s = c .before .before .before .before .before .before .before .before .before .before .before .before .before .before .before .before .before in
@@ -115,15 +93,12 @@ loop-again c =
           (c .before .before .before .before .before .before .before .before .before .if1 .left) (omega arith) (next .ensures .0) (next .ensures .1 .0) (put .ensures),
     )
 
--- src/lib.rt:96:9
 put-last-requires-2 : tie.Need-put-last-requires-2 Inv-loop μ-loop
 put-last-requires-2 c κs = search needs
 
--- src/lib.rt:96:9
 same-length-2 : tie.Need-same-length-2 Inv-loop μ-loop
 same-length-2 c = search needs
 
--- src/lib.rt:96:9
 returns-2 : tie.Need-returns-2 Inv-loop μ-loop
 returns-2 c =
     let a = c .before .before .before .before .before .before .before .before .before .before .before .before .args in
@@ -131,15 +106,12 @@ returns-2 c =
     let e = going-ends (a .ends) (a .ways) (a .links) (a .from) (a .to) (at .inv .2) (c .before .before .before .before .if2 .taken) in
     finish _ _ (at .inv .2 .laid) (said e (c .before .before .put-last2 .ensures)) (omega arith)
 
--- src/lib.rt:98:5
 put-more-requires : tie.Need-put-more-requires Inv-loop μ-loop
 put-more-requires c κs = search needs
 
--- src/lib.rt:70:1
 same-length-3 : tie.Need-same-length-3 Inv-loop μ-loop
 same-length-3 c = search needs
 
--- src/lib.rt:70:1
 returns-3 : tie.Need-returns-3 Inv-loop μ-loop
 returns-3 c =
     let a = c .before .before .before .before .before .before .before .before .before .before .before .before .args in

@@ -1,8 +1,9 @@
-use Prim.Native.Nat.{ℕ, _≤_, _<_, _-_, _+_, min}
+-- `sheet_routes::put_places` meets its contract. The loop's invariant: the places from i on, laid from here, give the whole.
+use Prim.Native.Nat.{_≤_, _-_, _+_, min}
 use mathlib.Core.Path.{_≡_, refl}
 use native.Mathlib.Omega.{arith}
 use borrow.Author.Needs.{needs}
-use lib.ListN.{length, take, drop}
+use lib.ListN.{length, drop}
 use lib.Seq.{sets}
 use Rattle.text.specs.Laying.{Laid, last}
 use Rattle.sheet_routes.specs.RouteLines.{placesText}
@@ -10,10 +11,6 @@ use Rattle.text.proofs.Joining.{whole, done, _▸_}
 use Rattle.sheet_routes.proofs.Routes.{places-none, place-on}
 use Rattle.sheet_routes.proofs.put_places.Statement.{statement}
 use Rattle.sheet_routes.proofs.put_places.Tie as tie
-use Rattle.sheet_routes.proofs.put_places.Reads as reads
-use Rattle.sheet_routes.proofs.put_places.Lts as lts
-use Rattle.text.proofs.put_byte.Reads as put-byte-reads
-use Rattle.text.proofs.put_number.Reads as put-number-reads
 
 abbrev Inv-loop : tie.InvT-loop
 Inv-loop out₀ at r next₀ i₀ out next i =
@@ -23,35 +20,27 @@ Inv-loop out₀ at r next₀ i₀ out next i =
 abbrev μ-loop : tie.MeasureT-loop
 μ-loop out₀ at r next₀ i₀ out next i = length r - i
 
--- src/lib.rt:228:5
 loop-holds : tie.Need-loop-holds Inv-loop μ-loop
 loop-holds c = (refl, omega arith, whole _ _ _ (omega arith))
 
--- src/lib.rt:229:9
 put-byte-requires : tie.Need-put-byte-requires Inv-loop μ-loop
 put-byte-requires c κs = search needs
 
--- src/lib.rt:230:38
 shared-slice-read-put-number : tie.Need-shared-slice-read-put-number Inv-loop μ-loop
 shared-slice-read-put-number c = search needs
 
--- src/lib.rt:230:38
 cast-put-number : tie.Need-cast-put-number Inv-loop μ-loop
 cast-put-number c = omega (arith, c .shared-slice-known2 .given (c .before .before .before .before .before .before .before .loop .i))
 
--- src/lib.rt:230:9
 put-number-requires : tie.Need-put-number-requires Inv-loop μ-loop
 put-number-requires c κs = search needs
 
--- src/lib.rt:231:9
 add-i : tie.Need-add-i Inv-loop μ-loop
 add-i c = search needs
 
--- src/lib.rt:228:5
 loop-less : tie.Need-loop-less Inv-loop μ-loop
 loop-less c = search needs
 
--- src/lib.rt:228:5
 loop-again : tie.Need-loop-again Inv-loop μ-loop
 loop-again c =
     let at = c .before .before .before .before .before .before .before .before .before .before .loop in
@@ -62,11 +51,9 @@ loop-again c =
       place-on (c .before .before .before .before .before .before .before .before .before .before .before .before .before .args .r .now) (at .i) (omega arith) (at .inv .2) (put .ensures ▸ number .ensures),
     )
 
--- src/lib.rt:223:1
 same-length : tie.Need-same-length Inv-loop μ-loop
 same-length c = search needs
 
--- src/lib.rt:223:1
 returns : tie.Need-returns Inv-loop μ-loop
 returns c =
     let at = c .before .loop in

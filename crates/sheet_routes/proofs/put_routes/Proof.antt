@@ -1,50 +1,38 @@
+-- `sheet_routes::put_routes` meets its contract: arrays out of range have no routes, so that `end` is all; else the list.
 use borrow.Author.Needs.{needs}
 use Rattle.text.proofs.Joining.{said}
 use Rattle.sheet_routes.proofs.Going.{list-many, list-placeless, list-right}
 use Rattle.sheet_routes.proofs.put_routes.Statement.{statement}
 use Rattle.sheet_routes.proofs.put_routes.Tie as tie
-use Rattle.sheet_routes.proofs.put_routes.Reads as reads
-use Rattle.sheet_routes.proofs.put_routes.Lts as lts
-use Rattle.sheet_routes.proofs.put_last.Reads as put-last-reads
-use Rattle.sheet_routes.proofs.put_list.Reads as put-list-reads
 
--- src/lib.rt:115:9
 put-last-requires : tie.Need-put-last-requires
 put-last-requires c κs = search needs
 
--- src/lib.rt:115:9
 same-length : tie.Need-same-length
 same-length c = search needs
 
--- src/lib.rt:115:9
 returns : tie.Need-returns
 returns c =
     let a = c .before .before .before .before .before .before .args in
     said (list-many (a .ends) (a .ways) (a .links) (a .from) (a .to) (a .most) (c .before .before .before .before .if1 .taken)) (c .before .before .put-last .ensures)
 
--- src/lib.rt:118:9
 put-last-requires-2 : tie.Need-put-last-requires-2
 put-last-requires-2 c κs = search needs
 
--- src/lib.rt:118:9
 same-length-2 : tie.Need-same-length-2
 same-length-2 c = search needs
 
--- src/lib.rt:118:9
 returns-2 : tie.Need-returns-2
 returns-2 c =
     let a = c .before .before .before .before .before .before .before .args in
     said (list-placeless (a .ends) (a .ways) (a .links) (a .from) (a .to) (a .most) (c .before .before .before .before .before .if1 .left) (c .before .before .before .before .if2 .taken)) (c .before .before .put-last2 .ensures)
 
--- src/lib.rt:120:5
 put-list-requires : tie.Need-put-list-requires
 put-list-requires c κs = search needs
 
--- src/lib.rt:102:1
 same-length-3 : tie.Need-same-length-3
 same-length-3 c = search needs
 
--- src/lib.rt:102:1
 returns-3 : tie.Need-returns-3
 returns-3 c =
     let a = c .before .before .before .before .before .before .before .args in

@@ -1,4 +1,5 @@
-use mathlib.Core.Path.{_≡_, sym}
+-- `text::put_digits` meets its contract: a number below ten is one digit; else the digits of its tenth part come first.
+use mathlib.Core.Path.{sym}
 use native.Mathlib.Omega.{arith}
 use borrow.Author.Needs.{needs}
 use Rattle.text.proofs.Joining.{nothing, _▸_, said}
@@ -24,7 +25,6 @@ abbrev put-digits-below : ℕ → In 1 put-digits-kinds.ps
 put-digits-below t =
     and 1 put-digits-kinds.ps (falls 1 put-digits-kinds.ps _<_ μ-put-digits t) put-digits.Pre
 
--- src/lib.rt:49:9
 put-digits-returns : (t : ℕ) → put-digits-lts.Need-returns (
   put-byte-reads.Asked,
   put-byte-reads.Learnt,
@@ -33,7 +33,6 @@ put-digits-returns : (t : ℕ) → put-digits-lts.Need-returns (
 ) (put-digits-at t) put-digits.Post
 put-digits-returns t c = let a = c .before .before .args in said (sym (digits-none (a .k) (a .n) (c .if1 .taken))) (nothing (omega arith) (omega arith))
 
--- src/lib.rt:52:39
 put-digits-cast-put-byte : (t : ℕ) → put-digits-lts.Need-cast-put-byte (
   put-byte-reads.Asked,
   put-byte-reads.Learnt,
@@ -42,7 +41,6 @@ put-digits-cast-put-byte : (t : ℕ) → put-digits-lts.Need-cast-put-byte (
 ) (put-digits-at t) put-digits.Post
 put-digits-cast-put-byte t c = search needs
 
--- src/lib.rt:52:34
 put-digits-add-put-byte : (t : ℕ) → put-digits-lts.Need-add-put-byte (
   put-byte-reads.Asked,
   put-byte-reads.Learnt,
@@ -51,7 +49,6 @@ put-digits-add-put-byte : (t : ℕ) → put-digits-lts.Need-add-put-byte (
 ) (put-digits-at t) put-digits.Post
 put-digits-add-put-byte t c = search needs
 
--- src/lib.rt:52:9
 put-digits-put-byte-requires : (t : ℕ) → put-digits-lts.Need-put-byte-requires (
   put-byte-reads.Asked,
   put-byte-reads.Learnt,
@@ -60,7 +57,6 @@ put-digits-put-byte-requires : (t : ℕ) → put-digits-lts.Need-put-byte-requir
 ) (put-digits-at t) put-digits.Post
 put-digits-put-byte-requires t c κs = search needs
 
--- src/lib.rt:52:9
 put-digits-same-length : (t : ℕ) → put-digits-lts.Need-same-length (
   put-byte-reads.Asked,
   put-byte-reads.Learnt,
@@ -69,7 +65,6 @@ put-digits-same-length : (t : ℕ) → put-digits-lts.Need-same-length (
 ) (put-digits-at t) put-digits.Post
 put-digits-same-length t c = search needs
 
--- src/lib.rt:52:9
 put-digits-returns-2 : (t : ℕ) → put-digits-lts.Need-returns-2 (
   put-byte-reads.Asked,
   put-byte-reads.Learnt,
@@ -80,7 +75,6 @@ put-digits-returns-2 t c =
     let a = c .before .before .before .before .before .before .before .args in
     said (sym (digits-one (a .k) (a .n) (c .before .before .before .before .before .if1 .left) (c .before .before .before .before .if2 .taken))) (c .before .before .put-byte .ensures)
 
--- src/lib.rt:54:44
 put-digits-sub-put-digits : (t : ℕ) → put-digits-lts.Need-sub-put-digits (
   put-byte-reads.Asked,
   put-byte-reads.Learnt,
@@ -89,7 +83,6 @@ put-digits-sub-put-digits : (t : ℕ) → put-digits-lts.Need-sub-put-digits (
 ) (put-digits-at t) put-digits.Post
 put-digits-sub-put-digits t c = search needs
 
--- src/lib.rt:54:9
 put-digits-put-digits-requires : (t : ℕ) → put-digits-lts.Need-put-digits-requires (
   put-byte-reads.Asked,
   put-byte-reads.Learnt,
@@ -98,7 +91,6 @@ put-digits-put-digits-requires : (t : ℕ) → put-digits-lts.Need-put-digits-re
 ) (put-digits-at t) put-digits.Post
 put-digits-put-digits-requires t c κs = (omega (arith, c .before .before .before .before .pre .0), tt)
 
--- src/lib.rt:55:30
 put-digits-cast-put-byte-2 : (t : ℕ) → put-digits-lts.Need-cast-put-byte-2 (
   put-byte-reads.Asked,
   put-byte-reads.Learnt,
@@ -107,7 +99,6 @@ put-digits-cast-put-byte-2 : (t : ℕ) → put-digits-lts.Need-cast-put-byte-2 (
 ) (put-digits-at t) put-digits.Post
 put-digits-cast-put-byte-2 t c = search needs
 
--- src/lib.rt:55:25
 put-digits-add-put-byte-2 : (t : ℕ) → put-digits-lts.Need-add-put-byte-2 (
   put-byte-reads.Asked,
   put-byte-reads.Learnt,
@@ -116,7 +107,6 @@ put-digits-add-put-byte-2 : (t : ℕ) → put-digits-lts.Need-add-put-byte-2 (
 ) (put-digits-at t) put-digits.Post
 put-digits-add-put-byte-2 t c = search needs
 
--- src/lib.rt:55:5
 put-digits-put-byte-requires-2 : (t : ℕ) → put-digits-lts.Need-put-byte-requires-2 (
   put-byte-reads.Asked,
   put-byte-reads.Learnt,
@@ -125,7 +115,6 @@ put-digits-put-byte-requires-2 : (t : ℕ) → put-digits-lts.Need-put-byte-requ
 ) (put-digits-at t) put-digits.Post
 put-digits-put-byte-requires-2 t c κs = search needs
 
--- src/lib.rt:45:1
 put-digits-same-length-2 : (t : ℕ) → put-digits-lts.Need-same-length-2 (
   put-byte-reads.Asked,
   put-byte-reads.Learnt,
@@ -134,7 +123,6 @@ put-digits-same-length-2 : (t : ℕ) → put-digits-lts.Need-same-length-2 (
 ) (put-digits-at t) put-digits.Post
 put-digits-same-length-2 t c = search needs
 
--- src/lib.rt:45:1
 put-digits-returns-3 : (t : ℕ) → put-digits-lts.Need-returns-3 (
   put-byte-reads.Asked,
   put-byte-reads.Learnt,
