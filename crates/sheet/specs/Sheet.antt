@@ -1,7 +1,7 @@
 -- The printed sheet (document 01, "The printed sheet"): what is printed of an input, and what becomes of the buffer that it is written into.
 use Prim.Native.Nat.{ℕ}
 use mathlib.Core.Bool.{cond}
-use mathlib.Core.List.{List, [], _∷_, _++_}
+use mathlib.Core.List.{List, _++_}
 use lib.ListN.{length, drop}
 use lib.Dec.{ltb}
 use Rattle.lists.specs.Places.{joined}
@@ -15,6 +15,7 @@ use Rattle.chart.specs.Values.{nodeAt, linkAt}
 use Rattle.chart_read.specs.declared.ChartRead.{ChartRead}
 use Rattle.chart_read.specs.Reading.{chartReadOf}
 use Rattle.chart_net.specs.Net.{routesOf}
+use Rattle.text.specs.Marks.{ascii}
 use Rattle.sheet_lines.specs.Lines.{nodeLine, linkLine, countsLine, questionLine, refusedLine}
 use Rattle.sheet_routes.specs.RouteLines.{listText}
 
@@ -25,9 +26,9 @@ longestInput = 4096
 abbrev pub mostRoutes : ℕ
 mostRoutes = 1000
 
--- "too long"
+-- the one line of a longer input
 abbrev pub longLine : List ℕ
-longLine = 116 ∷ 111 ∷ 111 ∷ 32 ∷ 108 ∷ 111 ∷ 110 ∷ 103 ∷ 10 ∷ []
+longLine = ascii "too long\n"
 
 -- each place as it is
 abbrev pub place : ℕ → ℕ

@@ -7,7 +7,7 @@ use native.Mathlib.Omega.{arith}
 use lib.ListN.{length, drop, getD, drop-of-length-le}
 use lib.Seq.{drop-cons}
 use Rattle.text.specs.Laying.{Laid}
-use Rattle.text.specs.Marks.{blank, lf}
+use Rattle.text.specs.Marks.{ascii, blank, lf}
 use Rattle.text.specs.Decimal.{decimal}
 use Rattle.text.proofs.Joining.{rest}
 use Rattle.sheet_routes.specs.RouteLines.{placesText, routeLine, endLine, moreLine, listText}
@@ -26,7 +26,7 @@ pub place-on : {o m q : List ℕ} {a b c : ℕ} (r : List ℕ) (i : ℕ) → i <
     → Laid o a (placesText (drop i r)) q c → Laid o a (blank ++ decimal (getD r i 0)) m b → Laid m b (placesText (drop (i + 1) r)) q c
 place-on r i h p w = rest (rw (place-more r i h) at p) w
 
-pub route-none : (r : List ℕ) → length r ≡ 0 → 45 ∷ lf ≡ routeLine r
+pub route-none : (r : List ℕ) → length r ≡ 0 → ascii "-\n" ≡ routeLine r
 unfolding routeLine
 route-none [] e = refl
 route-none (x ∷ r) e = absurd (omega arith)

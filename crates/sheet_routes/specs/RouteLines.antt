@@ -2,7 +2,7 @@
 use Prim.Native.Nat.{ℕ, zero, suc}
 use mathlib.Core.Path.{_≡_, refl}
 use mathlib.Core.List.{List, [], _∷_, _++_}
-use Rattle.text.specs.Marks.{blank, lf}
+use Rattle.text.specs.Marks.{ascii, blank, lf}
 use Rattle.text.specs.Decimal.{digits, decimal}
 
 -- link places, each after a blank
@@ -12,15 +12,15 @@ placesText (i ∷ r) = blank ++ decimal i ++ placesText r
 
 -- a route: its link places with a blank between two; `-` for the empty one
 unfoldable pub routeLine : List ℕ → List ℕ
-routeLine [] = 45 ∷ lf
+routeLine [] = ascii "-" ++ lf
 routeLine (i ∷ r) = decimal i ++ placesText r ++ lf
 
--- "end", "more"
+-- the last line of a whole list, and of one that goes on
 abbrev pub endLine : List ℕ
-endLine = 101 ∷ 110 ∷ 100 ∷ 10 ∷ []
+endLine = ascii "end\n"
 
 abbrev pub moreLine : List ℕ
-moreLine = 109 ∷ 111 ∷ 114 ∷ 101 ∷ 10 ∷ []
+moreLine = ascii "more\n"
 
 -- a line for each of these routes and `end`; after `most` lines, if another route follows, `more` in place of `end`
 unfoldable pub listText : ℕ → List (List ℕ) → List ℕ
@@ -28,14 +28,14 @@ listText most [] = endLine
 listText zero (r ∷ rs) = moreLine
 listText (suc most) (r ∷ rs) = routeLine r ++ listText most rs
 
--- "0 4 3", the empty route; two routes, of which one, two and three lines are allowed
-pub record Lines : Type 0 where
-  pub three : routeLine (0 ∷ 4 ∷ 3 ∷ []) ≡ 48 ∷ 32 ∷ 52 ∷ 32 ∷ 51 ∷ 10 ∷ []
-  pub none : routeLine [] ≡ 45 ∷ 10 ∷ []
-  pub goes-on : listText 1 ((0 ∷ []) ∷ (47 ∷ []) ∷ []) ≡ 48 ∷ 10 ∷ moreLine
-  pub just : listText 2 ((0 ∷ []) ∷ (47 ∷ []) ∷ []) ≡ 48 ∷ 10 ∷ 52 ∷ 55 ∷ 10 ∷ endLine
-  pub ends : listText 3 ((0 ∷ []) ∷ (47 ∷ []) ∷ []) ≡ 48 ∷ 10 ∷ 52 ∷ 55 ∷ 10 ∷ endLine
+-- a route, the empty one; and two routes, of which one, two and three lines are allowed
+pub record Samples : Type 0 where
+  pub three : routeLine (0 ∷ 4 ∷ 3 ∷ []) ≡ ascii "0 4 3\n"
+  pub none : routeLine [] ≡ ascii "-\n"
+  pub goes-on : listText 1 ((0 ∷ []) ∷ (47 ∷ []) ∷ []) ≡ ascii "0\nmore\n"
+  pub just : listText 2 ((0 ∷ []) ∷ (47 ∷ []) ∷ []) ≡ ascii "0\n47\nend\n"
+  pub ends : listText 3 ((0 ∷ []) ∷ (47 ∷ []) ∷ []) ≡ ascii "0\n47\nend\n"
 
-pub lines : Lines
+pub samples : Samples
 unfolding digits placesText routeLine listText
-lines = record { three = refl; none = refl; goes-on = refl; just = refl; ends = refl }
+samples = record { three = refl; none = refl; goes-on = refl; just = refl; ends = refl }

@@ -4,6 +4,7 @@ use mathlib.Core.Path.{_≡_, refl}
 use mathlib.Core.Bool.{cond}
 use mathlib.Core.List.{List, [], _∷_, _++_}
 use lib.Dec.{ltb}
+use Rattle.text.specs.Marks.{ascii}
 
 -- n with no zeros in front; of a number with more than k digits, the last k
 unfoldable pub digits : ℕ → ℕ → List ℕ
@@ -14,14 +15,13 @@ digits (suc k) n = cond (ltb n 10) ((48 + n) ∷ []) (digits k (n / 10) ++ ((48 
 abbrev pub decimal : ℕ → List ℕ
 decimal n = digits 20 n
 
--- 0, 9, 10 and the largest usize
-pub record Numbers : Type 0 where
-  pub none : decimal 0 ≡ 48 ∷ []
-  pub nine : decimal 9 ≡ 57 ∷ []
-  pub ten : decimal 10 ≡ 49 ∷ 48 ∷ []
-  pub largest : decimal 18446744073709551615
-      ≡ 49 ∷ 56 ∷ 52 ∷ 52 ∷ 54 ∷ 55 ∷ 52 ∷ 52 ∷ 48 ∷ 55 ∷ 51 ∷ 55 ∷ 48 ∷ 57 ∷ 53 ∷ 53 ∷ 49 ∷ 54 ∷ 49 ∷ 53 ∷ []
+-- one digit, two, and the largest usize
+pub record Samples : Type 0 where
+  pub none : decimal 0 ≡ ascii "0"
+  pub nine : decimal 9 ≡ ascii "9"
+  pub ten : decimal 10 ≡ ascii "10"
+  pub largest : decimal 18446744073709551615 ≡ ascii "18446744073709551615"
 
-pub numbers : Numbers
+pub samples : Samples
 unfolding digits
-numbers = record { none = refl; nine = refl; ten = refl; largest = refl }
+samples = record { none = refl; nine = refl; ten = refl; largest = refl }
