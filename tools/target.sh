@@ -1,22 +1,30 @@
 # Sourced: how programs for x86-64 are built and run here. Compiled Rattle is x86-64, so on an Arm machine C and Rust are cross-built and emulated.
 cc=(gcc)
+ar=(ar)
 rust=(rustc -C linker=gcc)
 emulate=()
 if [ "$(uname -m)" = aarch64 ]; then
     cc=(x86_64-linux-gnu-gcc -static)
+    ar=(x86_64-linux-gnu-ar)
     rust=(/usr/bin/rustc --target x86_64-unknown-linux-gnu
         -C linker=x86_64-linux-gnu-gcc -C target-feature=+crt-static)
     emulate=(qemu-x86_64)
 fi
 
-# Builds the library's archive into a folder; what rt says is shown only where it fails.
+# Builds the library's archive into a folder, of one part for each crate of C calls; what rt says is shown only where it fails.
 build_archive() {
     mkdir -p "$1"
-    if ! rt staticlib door >"$1/staticlib.log" 2>&1; then
+    # Sets of crates that do not stand on each other are proved side by side, so what the parts stand on comes first.
+    if ! { rt check $(sed -n 's/^[a-z]*_door: //p' crates.txt) &&
+        rt staticlib envelope_door && rt staticlib ledger_door && rt staticlib chart_door && rt staticlib sheet_door; } >"$1/staticlib.log" 2>&1; then
         cat "$1/staticlib.log" >&2
         return 1
     fi
-    cp target/staticlib/libdoor.a "$1/libdoor.a"
+    {
+        echo "create $1/libdoor.a"
+        printf 'addlib target/staticlib/lib%s_door.a\n' envelope ledger chart sheet
+        echo save
+    } | "${ar[@]}" -M
 }
 
 # Builds a program of examples/ over the archive in a folder.

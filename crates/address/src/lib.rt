@@ -24,11 +24,11 @@ pub struct Station {
     pub node: Node,
 }
 
-// A port of a station. Port 0 is the router.
+// A port of a station. Port 0 is the router. In this order the three fields leave no byte between them unused, so that rows of addresses are filled and copied at once.
 pub struct Address {
     pub brigade: u8,
-    pub node: Node,
     pub port: Port,
+    pub node: Node,
 }
 
 // The station that an address stands at.

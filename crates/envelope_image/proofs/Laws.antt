@@ -18,13 +18,15 @@ use Rattle.address.specs.Address.{zeroAddress}
 use Rattle.envelope.specs.declared.Fixed.{Fixed}
 use Rattle.envelope.specs.Frame.{partAt, countOf, fieldsOf, destinationAt}
 use Rattle.envelope.specs.Refusal.{outside, refusalOf}
-use Rattle.envelope_read.specs.Read.{destinationsOf}
+use Rattle.envelope_parts.specs.Parts.{destinationsOf}
 use Rattle.envelope.proofs.Laws.{count-le}
-use Rattle.envelope_read.proofs.Laws.{contents-at-taken, destinations-taken}
+use Rattle.envelope_parts.proofs.Laws.{contents-at-taken, destinations-taken}
 use Rattle.lists.specs.declared.Written.{Written}
-use Rattle.envelope_write.specs.Write.{sizeFor, writeRefusal, afterOf}
+use Rattle.envelope_refuse.specs.Refuse.{sizeFor, writeRefusal}
+use Rattle.envelope_write.specs.Write.{afterOf}
 use Rattle.lists.specs.Writing.{writeNumber, writeCount}
-use Rattle.envelope_write.proofs.Laws.{count-refused, write-agree, after-agree}
+use Rattle.envelope_refuse.proofs.Laws.{count-refused, write-agree}
+use Rattle.envelope_write.proofs.Laws.{after-agree}
 use Rattle.address.specs.Wide.{addressBytes}
 use Rattle.wide.proofs.Laws.{length-address}
 use Rattle.envelope_image.specs.Envelope.{fieldBytes, envelopeImage, readNumberFor, imageAfter, fieldsIn, destinationIn, strayAck, writeNumberFor, writtenFor, frameAfter}

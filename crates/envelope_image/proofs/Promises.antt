@@ -18,12 +18,14 @@ use Rattle.address.specs.Address.{zeroAddress}
 use Rattle.envelope.specs.declared.Fixed.{Fixed}
 use Rattle.envelope.specs.Frame.{fieldsOf}
 use Rattle.envelope.specs.Refusal.{outOfRange, valueRefusal, refusalOf}
-use Rattle.envelope_read.specs.Read.{contentsOf, contentsAt, destinationsOf}
+use Rattle.envelope_parts.specs.Parts.{contentsOf, contentsAt, destinationsOf}
 use Rattle.envelope.proofs.Laws.{count-le}
 use Rattle.envelope_read.proofs.Laws.{read-whole}
-use Rattle.envelope_write.specs.Write.{headOf, midOf, bodyOf, bytesOf, writeRefusal, afterOf, carried}
+use Rattle.envelope_refuse.specs.Refuse.{writeRefusal}
+use Rattle.envelope_write.specs.Write.{headOf, midOf, bodyOf, bytesOf, afterOf, carried}
 use Rattle.envelope_write.specs.Promises.{WriteUndoesRead as FrameAgain}
-use Rattle.envelope_write.proofs.Laws.{write-agree, after-agree, wrote}
+use Rattle.envelope_refuse.proofs.Laws.{write-agree}
+use Rattle.envelope_write.proofs.Laws.{after-agree, wrote}
 use Rattle.envelope_write.proofs.Promises.{write-undoes-read as frame-undoes}
 use Rattle.address.specs.Wide.{addressBytes}
 use Rattle.envelope_image.specs.Envelope.{fieldBytes, envelopeImage, readNumberFor, imageAfter, fieldsIn, destinationIn}

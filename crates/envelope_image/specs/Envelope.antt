@@ -14,8 +14,9 @@ use Rattle.address.specs.Address.{zeroAddress}
 use Rattle.envelope.specs.declared.Fixed.{Fixed}
 use Rattle.envelope.specs.Frame.{fieldsOf}
 use Rattle.envelope.specs.Refusal.{mostDestinations, longestContents, outside, refusalOf}
-use Rattle.envelope_read.specs.Read.{contentsAt, destinationsOf}
-use Rattle.envelope_write.specs.Write.{bytesOf, sizeFor, writeRefusal}
+use Rattle.envelope_parts.specs.Parts.{contentsAt, destinationsOf}
+use Rattle.envelope_refuse.specs.Refuse.{sizeFor, writeRefusal}
+use Rattle.envelope_write.specs.Write.{bytesOf}
 use Rattle.address.specs.Wide.{addressBytes, addressIn}
 
 abbrev pub envelopeSize : ℕ

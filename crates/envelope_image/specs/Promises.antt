@@ -3,7 +3,7 @@ use Prim.Native.Nat.{ℕ}
 use mathlib.Core.Path.{_≡_}
 use mathlib.Core.List.{List, _++_}
 use lib.ListN.{length, drop}
-use Rattle.envelope_read.specs.Read.{contentsOf}
+use Rattle.envelope_parts.specs.Parts.{contentsOf}
 use Rattle.envelope_image.specs.Envelope.{imageAfter, writeNumberFor, frameAfter}
 
 -- the image that was written of a frame, read again beside the frame's contents, is the frame again

@@ -1,38 +1,19 @@
--- The theorems of the readers: contents-part, reader-numbers.
-use Prim.Native.Nat.{ℕ, _+_, _-_}
-use mathlib.Core.Path.{_≡_, refl, sym}
+-- The theorem of the reader: reader-numbers.
+use Prim.Native.Nat.{ℕ, _-_}
+use mathlib.Core.Path.{_≡_, refl}
 use mathlib.Core.Bool.{Bool, true, false, not}
-use mathlib.Core.List.{List, [], _∷_, _++_, append-assoc}
-use native.Mathlib.Omega.{arith}
+use mathlib.Core.List.{List}
 use lib.Dec.{eqb, ltb}
-use lib.ListN.{length, getD, take, drop, take-append-drop}
-use lib.Seq.{take-add}
+use lib.ListN.{length, getD, take, drop}
 use borrow.Author.Tests.{le-ltb}
 use Rattle.lists.specs.Bytes.{Bytes}
 use Rattle.lists.specs.Refusals.{refuse, orElse, among}
 use Rattle.lists.specs.Places.{repeats}
 use Rattle.address.specs.Address.{sameAddress}
-use Rattle.envelope.specs.declared.Fixed.{Fixed}
-use Rattle.envelope_read.specs.declared.Read.the-variants.{Envelope}
-use Rattle.envelope.specs.Frame.{partAt, lengthOf, contentsStart, sizeOf, fieldsOf, destinationAt, checkOf}
+use Rattle.envelope.specs.Frame.{partAt, lengthOf, sizeOf, fieldsOf, destinationAt, checkOf}
 use Rattle.envelope.specs.Refusal.{mostDestinations, lowestPriority, outside, wrongVersion, frameRefusal, valueRefusal, refusalOf}
-use Rattle.envelope_read.specs.Read.{readOf, contentsOf}
-use Rattle.envelope_read.specs.Promises.{ContentsPart, readerNumbers}
-use Rattle.envelope.proofs.Laws.{accepted, last-byte, length-le, never-out}
-use Rattle.envelope_read.proofs.Laws.{read-envelope, contents-taken, contents-at-taken, contents-long}
-
-part-stands : (f : List ℕ) → refusalOf f ≡ 0
-    → f ≡ take (contentsStart f) f ++ (contentsOf f ++ (checkOf (take (contentsStart f + lengthOf f) f) ∷ []))
-part-stands f z =
-    let n : length f - 1 ≡ contentsStart f + lengthOf f = omega (arith, accepted f z .frame .sized) in
-    sym (rw (contents-taken f z, ← append-assoc, ← take-add (contentsStart f) (lengthOf f) f, ← n, ← last-byte f z) (take-append-drop (length f - 1) f))
-
--- the contents of an accepted frame
-pub contents-part : (f : List ℕ) (e : Fixed) → readOf f ≡ Envelope e → ContentsPart f e
-unfolding fieldsOf
-contents-part f e h =
-    let o = read-envelope f e (sym h) in
-    rw (o .same) (record { long = contents-long f (o .none); begins = contents-at-taken f (o .none); stands = part-stands f (o .none) })
+use Rattle.envelope_read.specs.Promises.{readerNumbers}
+use Rattle.envelope.proofs.Laws.{length-le, never-out}
 
 -- the tests of 5 and 6 fail, so whatever the others say the number is one of the rest
 by-tests : (a b c d p q r s : Bool)

@@ -1,16 +1,13 @@
--- What the readers of a frame give.
+-- What the reader of a frame gives.
 use Prim.Native.Nat.{ℕ}
 use mathlib.Core.Bool.{false}
-use mathlib.Core.List.{List, []}
-use lib.ListN.{take, drop, replicate}
-use Rattle.lists.specs.Places.{row}
+use mathlib.Core.List.{List}
 use Rattle.lists.specs.Refusals.{unlessRefused}
 use Rattle.address.specs.Address.{zeroAddress}
 use Rattle.envelope.specs.declared.Fixed.{Fixed}
 use Rattle.envelope_read.specs.declared.Read.{Read}
 use Rattle.envelope_read.specs.declared.Read.the-variants.{Envelope, Refused}
-use Rattle.envelope_read.specs.declared.Destinations.{Destinations}
-use Rattle.envelope.specs.Frame.{partAt, fieldsOf, countOf, lengthOf, contentsStart, destinationAt}
+use Rattle.envelope.specs.Frame.{fieldsOf}
 use Rattle.envelope.specs.Refusal.{refusalOf}
 
 -- the fields beside a refusal: every one 0
@@ -29,17 +26,3 @@ readFields (Refused n) = zeroFields
 -- the fixed fields of a frame, or its refusal
 unfoldable pub readOf : List ℕ → Read
 readOf f = unlessRefused (refusalOf f) (Envelope (fieldsOf f)) (Refused (refusalOf f))
-
--- the contents, and where in the frame they begin; of a refused frame nothing, at its start
-unfoldable pub contentsOf : List ℕ → List ℕ
-contentsOf f = unlessRefused (refusalOf f) (take (lengthOf f) (drop (contentsStart f) f)) []
-
-unfoldable pub contentsAt : List ℕ → ℕ
-contentsAt f = unlessRefused (refusalOf f) (contentsStart f) 0
-
--- the destinations in 63 places, the unused ones zero; of a refused frame none
-unfoldable pub destinationsOf : List ℕ → Destinations
-destinationsOf f =
-    unlessRefused (refusalOf f)
-    (record { count = countOf f; places = row 63 zeroAddress (destinationAt (drop partAt f)) (countOf f) })
-    (record { count = 0; places = replicate 63 zeroAddress })

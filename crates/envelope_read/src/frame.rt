@@ -1,8 +1,11 @@
-// A frame's fields where they stand (appendix A, <envelope>), and whether it is whole: refusals 1 to 3.
+// A frame's fields where they stand (appendix A, <envelope>), whether it is whole (refusals 1 to 3), and the keys of its destinations.
 use address::Seq;
 use envelope::Fixed;
 ghost use mathlib.Core.Path.{_≡_};
-ghost use Rattle.envelope.specs.Frame.{fieldsOf};
+ghost use Prim.Native.Nat.{_≤_};
+ghost use Rattle.lists.specs.Places.{row};
+ghost use Rattle.envelope.specs.Frame.{fieldsOf, destinationAt};
+ghost use Rattle.envelope.specs.Keys.{keyAt};
 ghost use Rattle.envelope.specs.Refusal.{frameRefusal};
 
 // The fixed fields; a byte past the end counts as 0.
@@ -48,4 +51,18 @@ pub fn frame_refusal(frame: &[u8]) -> u8
     } else {
         3
     }
+}
+
+// The keys of the first n destinations of the part of a frame that begins with them.
+pub fn keys_in(part: &[u8], n: usize) -> [u32; 63]
+    requires { ⌜ n ≤ 63 ⌝ }
+    ensures { λ r. ⌜ r ≡ row 63 0 (keyAt (destinationAt (now (part .entry)))) n ⌝ }
+{
+    let mut keys = [0u32; 63];
+    let mut i = 0;
+    while i < n {
+        keys[i] = address::key(envelope::destination(part, i as u8));
+        i += 1;
+    }
+    keys
 }

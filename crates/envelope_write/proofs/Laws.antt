@@ -1,32 +1,26 @@
 -- Laws of the writer: the stores that make a frame, its length, and what a refusal says.
-use Prim.Native.Nat.{ℕ, zero, suc, _+_, _*_, _<_, _≤_}
+use Prim.Native.Nat.{ℕ, _+_, _*_, _≤_}
 use mathlib.Core.Path.{_≡_, refl, sym, ap, _∙_}
 use mathlib.Core.List.{List, [], _∷_, _++_}
-use mathlib.Core.Bool.{Bool, true, false}
 use native.Mathlib.Omega.{arith}
-use lib.Dec.{eqb, ltb}
 use lib.ListN.{length, take, drop, set, length-append}
 use lib.Seq.{sets}
-use borrow.Author.Tests.{ltb-false, lt-ltb, le-ltb}
-use Rattle.lists.specs.Places.{repeats, elementAt, row, joined}
+use Rattle.lists.specs.Places.{joined}
 use Rattle.lists.specs.Refusals.{unlessRefused}
-use Rattle.lists.proofs.Bools.{or-right}
 use Rattle.lists.proofs.Places.{Agree, length-joined, joined-agree}
 use Rattle.lists.proofs.Stores.{sets-append, sets-front, taken-front}
 use Rattle.lists.specs.Writing.{writeNumber, writeCount}
-use Rattle.lists.proofs.Refusals.{pass, or-pass, or-refused, taken, refused}
+use Rattle.lists.proofs.Refusals.{taken, refused}
 use Rattle.lists.proofs.Writing.{wrote-number, wrote-count, wrote-size, wrote-taken, wrote-refused}
 use Rattle.address.specs.declared.Address.{Address}
-use Rattle.address.specs.Address.{packOf, sameAddress}
+use Rattle.address.specs.Address.{packOf}
 use Rattle.envelope.specs.declared.Fixed.{Fixed}
 use Rattle.envelope.specs.Frame.{checkOf}
-use Rattle.envelope.specs.Refusal.{outside, outOfRange, valueRefusal, valuesRefusal}
-use Rattle.envelope.specs.Keys.{keyAt}
-use Rattle.envelope.proofs.Laws.{Valued, valued, outside-false, ranged, version-small, keys-agree, values-agree}
 use Rattle.lists.specs.declared.Written.{Written}
 use Rattle.lists.specs.declared.Written.the-variants.{Wrote, Refused}
-use Rattle.envelope_write.specs.Write.{headOf, midOf, bodyOf, bytesOf, sizeFor, writeRefusal, writeOf, afterOf}
-use Rattle.envelope_write.specs.Ready.{Ready}
+use Rattle.envelope_refuse.specs.Refuse.{sizeFor, writeRefusal}
+use Rattle.envelope_refuse.proofs.Laws.{ready, write-agree}
+use Rattle.envelope_write.specs.Write.{headOf, midOf, bodyOf, bytesOf, writeOf, afterOf}
 
 -- ---- the bytes of a frame
 
@@ -78,71 +72,15 @@ module _ (e : Fixed) (d : ℕ → Address) (l : List ℕ) where
   pub bytes-stored : (out : List ℕ) → sizeFor e (length l) ≤ length out → sets out 0 (bytesOf e d l) ≡ bytesOf e d l ++ drop (length (bytesOf e d l)) out
   bytes-stored out h = sets-front out (bytesOf e d l) (rw length-bytes h)
 
--- ---- the refusals
-
--- too many destinations are refused, whatever stands in them
-pub count-refused : (e : Fixed) (d : ℕ → Address) (n room : ℕ) → 63 < e .count → 4 ≡ writeRefusal e d n room
-unfolding writeRefusal valueRefusal outside
-count-refused e d n room h = rw (lt-ltb 63 (e .count) h, or-right)
-
--- with something out of range no later test counts; else equal keys are equal destinations
-stray-first : (e : Fixed) (n : ℕ) (stray equal equal' : Bool) → (stray ≡ false → equal ≡ equal') → valueRefusal e n stray equal ≡ valueRefusal e n stray equal'
-unfolding valueRefusal
-stray-first e n true equal equal' h = refl
-stray-first e n false equal equal' h = rw (h refl)
-
-pub values-by-keys : (e : Fixed) (d : ℕ → Address) (n : ℕ) {stray : Bool} {keys : List ℕ} {v : ℕ} → stray ≡ outOfRange e d → keys ≡ row 63 0 (keyAt d) (e .count)
-    → v ≡ valueRefusal e n stray (repeats eqb (elementAt 0 keys) (e .count)) → v ≡ valuesRefusal e n d
-values-by-keys e d n {stray} {keys} p k h =
-    h ∙ rw (p, k) (stray-first e n (outOfRange e d) _ (repeats sameAddress d (e .count)) (λ q. keys-agree d (e .count) (ranged e d q .destination-in)))
-
--- the writer's refusal, from that of its values and from the room
-module _ (e : Fixed) (d : ℕ → Address) (n room : ℕ) where
-  pub write-values : {v : ℕ} → v ≡ valuesRefusal e n d → (v ≡ 0 → ⊥) → v ≡ writeRefusal e d n room
-  unfolding writeRefusal
-  write-values p h = p ∙ sym (or-refused (valuesRefusal e n d) _ (λ z. h (p ∙ z)))
-
-  pub write-short : valuesRefusal e n d ≡ 0 → room < sizeFor e n → 10 ≡ writeRefusal e d n room
-  unfolding writeRefusal
-  write-short z h = rw (z, lt-ltb room (sizeFor e n) h)
-
-  pub write-fits : valuesRefusal e n d ≡ 0 → sizeFor e n ≤ room → 0 ≡ writeRefusal e d n room
-  unfolding writeRefusal
-  write-fits z h = rw (z, le-ltb room (sizeFor e n) h)
-
-  -- what a refusal of 0 says
-  pub write-taken : writeRefusal e d n room ≡ 0 → valuesRefusal e n d ≡ 0
-  unfolding writeRefusal
-  write-taken h = or-pass (valuesRefusal e n d) _ h .0
-
-  pub ready : writeRefusal e d n room ≡ 0 → Ready e n room
-  unfolding writeRefusal
-  ready h =
-      let p = or-pass (valuesRefusal e n d) _ h in
-      let r = pass 9 (ltb room (sizeFor e n)) 0 (p .1) in
-      let v : Valued e n (outOfRange e d) (repeats sameAddress d (e .count)) = valued _ _ _ _ (p .0) in
-      record {
-        counted = outside-false 63 _ (v .counted) .1;
-        short = v .short;
-        urgent = outside-false 9 _ (v .urgent) .1;
-        versioned = version-small _ _ (v .versioned);
-        numbered = ranged e d (v .inside) .seq-le;
-        roomy = ltb-false _ _ (r .0);
-      }
-
 -- two ways to give the destinations that agree
 module _ (e : Fixed) (d d' : ℕ → Address) (a : Agree d d' (e .count)) where
-  pub write-agree : (n room : ℕ) → writeRefusal e d n room ≡ writeRefusal e d' n room
-  unfolding writeRefusal
-  write-agree n room = rw (values-agree e n d d' a)
-
   pub bytes-agree : (l : List ℕ) → bytesOf e d l ≡ bytesOf e d' l
   unfolding bytesOf bodyOf
   bytes-agree l = rw (joined-agree packOf d d' (e .count) a)
 
   pub after-agree : (l out : List ℕ) → afterOf e d l out ≡ afterOf e d' l out
   unfolding afterOf
-  after-agree l out = rw (write-agree (length l) (length out), bytes-agree l)
+  after-agree l out = rw (write-agree e d d' a (length l) (length out), bytes-agree l)
 
 -- an answer that says how many bytes were written is no refusal, and the number is the frame's size
 pub wrote : (e : Fixed) (d : ℕ → Address) (n room : ℕ) {k : ℕ} → writeOf e d n room ≡ Wrote k → (writeRefusal e d n room ≡ 0) × (k ≡ sizeFor e n)

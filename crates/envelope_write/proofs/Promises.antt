@@ -17,12 +17,15 @@ use Rattle.envelope.specs.declared.Fixed.{Fixed}
 use Rattle.envelope_read.specs.declared.Read.the-variants.{Envelope}
 use Rattle.envelope.specs.Frame.{fieldsOf}
 use Rattle.envelope.specs.Refusal.{mostDestinations, longestContents, lowestPriority, outside, outOfRange, wrongVersion, valueRefusal}
-use Rattle.envelope_read.specs.Read.{readOf, contentsOf, destinationsOf}
+use Rattle.envelope_read.specs.Read.{readOf}
+use Rattle.envelope_parts.specs.Parts.{contentsOf, destinationsOf}
 use Rattle.envelope_read.proofs.Laws.{read-envelope}
 use Rattle.lists.specs.declared.Written.the-variants.{Wrote}
-use Rattle.envelope_write.specs.Write.{bytesOf, sizeFor, writeRefusal, writeOf, afterOf}
+use Rattle.envelope_refuse.specs.Refuse.{sizeFor, writeRefusal}
+use Rattle.envelope_write.specs.Write.{bytesOf, writeOf, afterOf}
 use Rattle.envelope_write.specs.Promises.{ReadUndoesWrite, WriteUndoesRead, writerNumbers}
-use Rattle.envelope_write.proofs.Laws.{length-bytes, write-taken, wrote}
+use Rattle.envelope_refuse.proofs.Laws.{write-taken}
+use Rattle.envelope_write.proofs.Laws.{length-bytes, wrote}
 use Rattle.envelope_write.proofs.ReadBack.{fields-read, contents-read, destinations-read}
 use Rattle.envelope_write.proofs.WriteBack.{taken-again, bytes-again}
 

@@ -19,9 +19,11 @@ use Rattle.envelope.specs.declared.Fixed.{Fixed}
 use Rattle.envelope_read.specs.declared.Read.the-variants.{Envelope}
 use Rattle.envelope.specs.Frame.{partAt, protAt, contentsStart, countOf, lengthOf, sizeOf, fieldsOf, destinationAt, checkOf}
 use Rattle.envelope.specs.Refusal.{outOfRange, frameRefusal, valueRefusal, valuesRefusal, refusalOf}
-use Rattle.envelope_read.specs.Read.{readOf, contentsOf, destinationsOf}
+use Rattle.envelope_read.specs.Read.{readOf}
+use Rattle.envelope_parts.specs.Parts.{contentsOf, destinationsOf}
 use Rattle.envelope.proofs.Laws.{values-agree, Valued, valued, outside-false, Ranged, ranged, version-small}
-use Rattle.envelope_read.proofs.Laws.{read-whole, contents-taken, destinations-taken}
+use Rattle.envelope_read.proofs.Laws.{read-whole}
+use Rattle.envelope_parts.proofs.Laws.{contents-taken, destinations-taken}
 use Rattle.envelope_write.specs.Write.{headOf, midOf, bodyOf, bytesOf, carried}
 use Rattle.envelope_write.proofs.Laws.{length-pack, length-head, length-mid, length-packs, length-body, length-bytes}
 

@@ -17,11 +17,13 @@ use Rattle.address.specs.Address.{packOf, zeroAddress}
 use Rattle.address.proofs.Laws.{undo}
 use Rattle.envelope.specs.Frame.{partAt, protAt, contentsStart, countOf, lengthOf, sizeOf, fieldsOf, destinationAt}
 use Rattle.envelope.specs.Refusal.{frameRefusal, valuesRefusal, refusalOf}
-use Rattle.envelope_read.specs.Read.{contentsOf, destinationsOf}
+use Rattle.envelope_parts.specs.Parts.{contentsOf, destinationsOf}
 use Rattle.envelope.proofs.Laws.{values-agree, accepted, last-byte, part-bytes}
-use Rattle.envelope_read.proofs.Laws.{contents-taken, contents-long, destinations-taken}
-use Rattle.envelope_write.specs.Write.{headOf, midOf, bodyOf, bytesOf, writeRefusal}
-use Rattle.envelope_write.proofs.Laws.{write-fits, bytes-agree}
+use Rattle.envelope_parts.proofs.Laws.{contents-taken, contents-long, destinations-taken}
+use Rattle.envelope_refuse.specs.Refuse.{writeRefusal}
+use Rattle.envelope_write.specs.Write.{headOf, midOf, bodyOf, bytesOf}
+use Rattle.envelope_refuse.proofs.Laws.{write-fits}
+use Rattle.envelope_write.proofs.Laws.{bytes-agree}
 
 -- some bytes of a list, one by one
 spelt : List ℕ → ℕ → ℕ → List ℕ

@@ -8,7 +8,8 @@ use Rattle.address.specs.declared.Address.{Address}
 use Rattle.address.specs.Address.{zeroAddress}
 use Rattle.envelope.specs.declared.Fixed.{Fixed}
 use Rattle.envelope_read.specs.declared.Read.the-variants.{Envelope}
-use Rattle.envelope_read.specs.Read.{readOf, contentsOf, destinationsOf}
+use Rattle.envelope_read.specs.Read.{readOf}
+use Rattle.envelope_parts.specs.Parts.{contentsOf, destinationsOf}
 use Rattle.lists.specs.declared.Written.the-variants.{Wrote}
 use Rattle.envelope_write.specs.Write.{writeOf, afterOf, carried}
 

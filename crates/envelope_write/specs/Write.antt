@@ -2,18 +2,17 @@
 use Prim.Native.Nat.{ℕ, _+_, _*_}
 use mathlib.Core.List.{List, [], _∷_, _++_}
 use mathlib.Core.Bool.{cond}
-use lib.Dec.{ltb}
 use lib.ListN.{length, drop}
 use Rattle.lists.specs.Bytes.{wordBytes}
 use Rattle.lists.specs.Places.{joined}
-use Rattle.lists.specs.Refusals.{refuse, orElse, unlessRefused}
+use Rattle.lists.specs.Refusals.{unlessRefused}
 use Rattle.lists.specs.declared.Written.{Written}
 use Rattle.lists.specs.Writing.{wroteUnless}
 use Rattle.address.specs.declared.Address.{Address}
 use Rattle.address.specs.Address.{packOf}
 use Rattle.envelope.specs.declared.Fixed.{Fixed}
 use Rattle.envelope.specs.Frame.{checkOf}
-use Rattle.envelope.specs.Refusal.{valuesRefusal}
+use Rattle.envelope_refuse.specs.Refuse.{sizeFor, writeRefusal}
 
 -- <source> and <count&length>, with n the length of the contents; the fields' own length is not looked at
 unfoldable pub headOf : Fixed → ℕ → List ℕ
@@ -30,14 +29,6 @@ bodyOf e d l = headOf e (length l) ++ joined packOf d (e .count) ++ midOf e ++ l
 -- the whole frame
 unfoldable pub bytesOf : Fixed → (ℕ → Address) → List ℕ → List ℕ
 bytesOf e d l = bodyOf e d l ++ (checkOf (bodyOf e d l) ∷ [])
-
--- the size of a frame with n bytes of contents
-abbrev pub sizeFor : Fixed → ℕ → ℕ
-sizeFor e n = 10 + 3 * e .count + n
-
--- 4 to 10, of the fields, the destinations, n bytes of contents and the room lent
-unfoldable pub writeRefusal : Fixed → (ℕ → Address) → ℕ → ℕ → ℕ
-writeRefusal e d n room = orElse (valuesRefusal e n d) (refuse 10 (ltb room (sizeFor e n)) 0)
 
 -- the number of bytes written, or the refusal
 unfoldable pub writeOf : Fixed → (ℕ → Address) → ℕ → ℕ → Written

@@ -2,7 +2,6 @@
 use address::Address;
 use envelope::Fixed;
 use lists::Written;
-use refusing::write_refusal;
 use storing::put_frame;
 ghost use mathlib.Core.Path.{_≡_};
 ghost use lib.ListN.{length};
@@ -10,9 +9,9 @@ ghost use Rattle.lists.specs.Places.{elementAt};
 ghost use Rattle.address.specs.Address.{zeroAddress};
 ghost use Rattle.lists.specs.Refusals.{unlessRefused};
 ghost use Rattle.lists.specs.Writing.{writeNumber, writeCount};
-ghost use Rattle.envelope_write.specs.Write.{sizeFor, writeRefusal, writeOf, afterOf};
+ghost use Rattle.envelope_refuse.specs.Refuse.{sizeFor, writeRefusal};
+ghost use Rattle.envelope_write.specs.Write.{writeOf, afterOf};
 
-mod refusing;
 mod storing;
 
 // Writes an envelope into out, and gives the number of bytes written, or the refusal. Places past the count, and the fields' length, are not looked at.
@@ -22,7 +21,7 @@ pub fn write_frame(e: Fixed, places: [Address; 63], contents: &[u8], out: &mut [
     ensures count { λ r. ⌜ writeCount r ≡ unlessRefused (writeRefusal e (elementAt zeroAddress places) (length (now (contents .entry))) (length (now (out .entry)))) (sizeFor e (length (now (contents .entry)))) 0 ⌝ }
     ensures buffer { λ _. ⌜ now (out .exit) ≡ afterOf e (elementAt zeroAddress places) (now (contents .entry)) (now (out .entry)) ⌝ }
 {
-    let k = write_refusal(e, places, contents.len(), out.len());
+    let k = envelope_refuse::write_refusal(e, places, contents.len(), out.len());
     if k != 0 {
         return Written::Refused(k);
     }

@@ -7,8 +7,8 @@ ghost use lib.ListN.{length};
 ghost use lib.Seq.{sets};
 ghost use Rattle.lists.specs.Places.{elementAt, joined};
 ghost use Rattle.address.specs.Address.{zeroAddress, packOf};
-ghost use Rattle.envelope_write.specs.Write.{headOf, midOf, bodyOf, bytesOf, sizeFor};
-ghost use Rattle.envelope_write.specs.Ready.{Ready};
+ghost use Rattle.envelope_refuse.specs.Refuse.{sizeFor, Ready};
+ghost use Rattle.envelope_write.specs.Write.{headOf, midOf, bodyOf, bytesOf};
 
 // The first n addresses, from a place of out on.
 fn put_places(out: &mut [u8], at: usize, places: [Address; 63], n: usize)

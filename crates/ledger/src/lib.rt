@@ -1,4 +1,4 @@
-// The ledger of legs: what a leg is, what a ledger holds, and whether it obeys its rules. The calls stand in `ledger_calls` and `accept`.
+// The ledger of legs: what a leg is, what a ledger holds, and whether it obeys its rules. The calls stand in `accept`, `answer`, `tick` and `clear`.
 use address::Address;
 use address::Node;
 use address::Port;
@@ -34,6 +34,12 @@ pub struct Leg {
 pub struct Ledger {
     pub count: u8,
     pub legs: [Leg; 128],
+}
+
+// What answer and clear give: the number, and the ledger after the call.
+pub struct Outcome {
+    pub number: u8,
+    pub ledger: Ledger,
 }
 
 // What stands at a place with no leg.

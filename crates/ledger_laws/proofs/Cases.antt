@@ -5,8 +5,8 @@ use Rattle.lists.specs.Lists.{howMany}
 use Rattle.lists.specs.Refusals.{unlessRefused}
 use Rattle.address.specs.Address.{stationInRange, inRange, sameStation, sameAddress}
 use Rattle.ledger.specs.Rules.{legAt, isOpen, openLeg, alike, ticksRight, legRight, wrongAt, obeys}
-use Rattle.ledger_calls.specs.Answer.{standingFor, settled, withLeg, answeredAt, answeredPlace, answerNumber, answerOf}
-use Rattle.ledger_calls.specs.Tick.{timesOut, ticked, tickedLedger, tickNumber, tickOf}
+use Rattle.answer.specs.Answer.{standingFor, settled, withLeg, answeredAt, answeredPlace, answerNumber, answerOf}
+use Rattle.tick.specs.Tick.{timesOut, ticked, tickedLedger, tickNumber, tickOf}
 use Rattle.ledger_laws.specs.Cases.{two, twoAfter, one, LedgerCases}
 
 pub ledger-cases : LedgerCases

@@ -26,11 +26,11 @@ use Rattle.ledger.specs.declared.Leg.{Leg}
 use Rattle.ledger.specs.declared.Ledger.{Ledger}
 use Rattle.ledger.specs.Rules.{legAt, isOpen, alike, ticksRight, legRight, obeys}
 use Rattle.ledger.proofs.Laws.{right, Obedient}
-use Rattle.ledger_calls.specs.declared.Reply.{Reply}
-use Rattle.ledger_calls.specs.declared.Reply.the-variants.{Ack, Nak}
-use Rattle.ledger_calls.specs.Answer.{standingFor, settled, withLeg, answeredPlace, answerNumber, answerOf}
-use Rattle.ledger_calls.specs.Tick.{ticked, tickedLedger, tickNumber, tickOf}
-use Rattle.ledger_calls.specs.Clear.{closeUp, clearNumber, clearOf}
+use Rattle.answer.specs.declared.Reply.{Reply}
+use Rattle.answer.specs.declared.Reply.the-variants.{Ack, Nak}
+use Rattle.answer.specs.Answer.{standingFor, settled, withLeg, answeredPlace, answerNumber, answerOf}
+use Rattle.tick.specs.Tick.{ticked, tickedLedger, tickNumber, tickOf}
+use Rattle.clear.specs.Clear.{closeUp, clearNumber, clearOf}
 use Rattle.accept.specs.Accept.{openFrom, openFromAt, unrouted, legFor, legForAt, withLegs, acceptNumber, acceptOf}
 use Rattle.accept.proofs.Laws.{Roomy}
 use Rattle.ledger_laws.specs.Promises.{Whole}

@@ -25,10 +25,10 @@ use Rattle.ledger.specs.declared.Leg.{Leg}
 use Rattle.ledger.specs.declared.Ledger.{Ledger}
 use Rattle.ledger.specs.Rules.{noLeg, legAt, obeys}
 use Rattle.ledger.proofs.Laws.{Obedient, obedient}
-use Rattle.ledger_calls.specs.declared.Reply.{Reply}
-use Rattle.ledger_calls.specs.Answer.{settled, withLeg, answeredAt, answeredPlace, answerNumber, answerOf}
-use Rattle.ledger_calls.specs.Tick.{ticked, tickedLedger, tickNumber, tickOf}
-use Rattle.ledger_calls.specs.Clear.{closeUp, settledAt, clearNumber, clearOf}
+use Rattle.answer.specs.declared.Reply.{Reply}
+use Rattle.answer.specs.Answer.{settled, withLeg, answeredAt, answeredPlace, answerNumber, answerOf}
+use Rattle.tick.specs.Tick.{ticked, tickedLedger, tickNumber, tickOf}
+use Rattle.clear.specs.Clear.{closeUp, settledAt, clearNumber, clearOf}
 use Rattle.accept.specs.Accept.{legForAt, withLegs, callRefusal, acceptNumber, acceptOf}
 use Rattle.accept.proofs.Laws.{Called, called, Roomy, roomy}
 use Rattle.ledger_laws.specs.Promises.{Whole}

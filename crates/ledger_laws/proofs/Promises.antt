@@ -26,10 +26,10 @@ use Rattle.ledger.specs.declared.Leg.{Leg}
 use Rattle.ledger.specs.declared.Ledger.{Ledger}
 use Rattle.ledger.specs.Rules.{legAt, isOpen, legRight, obeys}
 use Rattle.ledger.proofs.Laws.{obedient}
-use Rattle.ledger_calls.specs.declared.Reply.{Reply}
-use Rattle.ledger_calls.specs.Answer.{withLeg, answeredAt, answeredPlace, answerNumber, answerOf}
-use Rattle.ledger_calls.specs.Tick.{timesOut, ticked, tickedLedger, tickNumber, tickOf}
-use Rattle.ledger_calls.specs.Clear.{clearNumber, clearOf}
+use Rattle.answer.specs.declared.Reply.{Reply}
+use Rattle.answer.specs.Answer.{withLeg, answeredAt, answeredPlace, answerNumber, answerOf}
+use Rattle.tick.specs.Tick.{timesOut, ticked, tickedLedger, tickNumber, tickOf}
+use Rattle.clear.specs.Clear.{clearNumber, clearOf}
 use Rattle.accept.specs.Accept.{callRefusal, acceptNumber, acceptOf}
 use Rattle.ledger_laws.specs.Calls.{Call, accepting, answering, ticking, clearing, numberOf, after}
 use Rattle.ledger_laws.specs.Promises.{Whole, AsWas, RulesKept, brokenNumber, RulesBroken, Named, Answers, Ticks, Clears, Adds}

@@ -6,10 +6,10 @@ use Rattle.address.specs.declared.Seq.{Seq}
 use Rattle.address.specs.declared.Address.{Address}
 use Rattle.route.specs.declared.Table.{Table}
 use Rattle.ledger.specs.declared.Ledger.{Ledger}
-use Rattle.ledger_calls.specs.declared.Reply.{Reply}
-use Rattle.ledger_calls.specs.Answer.{answerOf}
-use Rattle.ledger_calls.specs.Tick.{tickOf}
-use Rattle.ledger_calls.specs.Clear.{clearOf}
+use Rattle.answer.specs.declared.Reply.{Reply}
+use Rattle.answer.specs.Answer.{answerOf}
+use Rattle.tick.specs.Tick.{tickOf}
+use Rattle.clear.specs.Clear.{clearOf}
 use Rattle.accept.specs.Accept.{acceptOf}
 
 -- a frame by an arrival port with a table and ticks; who answers, to whom, the sequence number and the reply; a tick; a place to clear

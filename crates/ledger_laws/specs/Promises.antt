@@ -18,10 +18,10 @@ use Rattle.route.specs.declared.Table.{Table}
 use Rattle.route.specs.Route.{tableInRange, chooseOf, choiceNumber}
 use Rattle.ledger.specs.declared.Ledger.{Ledger}
 use Rattle.ledger.specs.Rules.{noLeg, legAt, isOpen, openLeg, obeys}
-use Rattle.ledger_calls.specs.declared.Reply.{Reply}
-use Rattle.ledger_calls.specs.Answer.{settled, answerOf}
-use Rattle.ledger_calls.specs.Tick.{timesOut, ticked, tickOf}
-use Rattle.ledger_calls.specs.Clear.{clearOf}
+use Rattle.answer.specs.declared.Reply.{Reply}
+use Rattle.answer.specs.Answer.{settled, answerOf}
+use Rattle.tick.specs.Tick.{timesOut, ticked, tickOf}
+use Rattle.clear.specs.Clear.{clearOf}
 use Rattle.accept.specs.Accept.{legForAt, acceptOf}
 use Rattle.ledger_laws.specs.Calls.{Call, accepting, answering, ticking, clearing, numberOf, after}
 

@@ -4,7 +4,8 @@ use lib.ListN.{length}
 use Rattle.lists.specs.Places.{elementAt}
 use Rattle.address.specs.Address.{zeroAddress}
 use Rattle.lists.specs.declared.Written.the-variants.{Wrote}
-use Rattle.envelope_write.proofs.Laws.{ready, bytes-stored, write-told, write-refused, write-wrote}
+use Rattle.envelope_refuse.proofs.Laws.{ready}
+use Rattle.envelope_write.proofs.Laws.{bytes-stored, write-told, write-refused, write-wrote}
 use borrow.Author.Needs.{needs}
 use Rattle.envelope_write.proofs.write_frame.Statement.{statement}
 use Rattle.envelope_write.proofs.write_frame.Tie as tie

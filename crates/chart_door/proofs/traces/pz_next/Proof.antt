@@ -1,0 +1,28 @@
+-- `door::traces::pz_next` meets its contract: the reader's number leaves the buffer; else the trace answers.
+use Rattle.chart_door.proofs.Laws.{next-unread, next-read}
+use borrow.Author.Needs.{needs}
+use Rattle.chart_door.proofs.traces.pz_next.Statement.{statement}
+use Rattle.chart_door.proofs.traces.pz_next.Tie as tie
+
+read-chart-requires : tie.Need-read-chart-requires
+read-chart-requires c κs = search needs
+
+returns : tie.Need-returns
+returns c = next-unread (c .before .before .before .before .args .chart .now) (c .before .before .before .before .args .route .now) (c .before .read-chart .ensures) (c .before .before .before .before .args .length) (c .if1 .taken)
+
+next-requires : tie.Need-next-requires
+next-requires c κs = search needs
+
+one-number-requires : tie.Need-one-number-requires
+one-number-requires c κs = search needs
+
+same-length : tie.Need-same-length
+same-length c = search needs
+
+returns-2 : tie.Need-returns-2
+returns-2 c = next-read (c .before .before .before .before .before .before .before .before .before .before .args .chart .now) (c .before .before .before .before .before .before .before .before .before .before .args .route .now) (c .before .before .before .before .before .before .before .read-chart .ensures) (c .before .before .before .before .before .before .before .before .before .before .args .length) (c .before .before .before .before .before .before .if1 .left) (c .one-number .ensures) (c .before .before .before .next .ensures .0) (c .before .before .before .next .ensures .1 .0)
+
+pub pz-next-spec : {M : Type 1} → statement M
+pz-next-spec =
+    tie.close
+    (tie.spec read-chart-requires returns next-requires one-number-requires same-length returns-2)
