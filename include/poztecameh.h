@@ -138,6 +138,15 @@ uint8_t pz_first(const uint8_t *chart, size_t n, uint8_t *route, size_t m, size_
  * stay. 21 to 31 of the chart, 42, 41, 43. */
 uint8_t pz_next(const uint8_t *chart, size_t n, uint8_t *route, size_t m, size_t length);
 
+/* No printed sheet is longer. */
+#define PZ_SHEET_SIZE 47129
+
+/* Writes the printed sheet of n bytes into m bytes at text; *written is its size. For a chart: the counts, the nodes,
+ * the links, the question and its routes in order, and `end`, or `more` after 1,000 routes if another follows; for any
+ * other input one line, `refused N at P`, or `too long` above 4,096 bytes. Every line ends with one line feed, and no
+ * byte of 0 is added. 10 if the text does not fit. */
+uint8_t pz_sheet(const uint8_t *chart, size_t n, uint8_t *text, size_t m, uint32_t *written);
+
 #ifdef __cplusplus
 }
 #endif

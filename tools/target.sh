@@ -16,13 +16,13 @@ build_archive() {
     mkdir -p "$1"
     # Sets of crates that do not stand on each other are proved side by side, so what the parts stand on comes first.
     if ! { rt check $(sed -n 's/^[a-z]*_door: //p' crates.txt) &&
-        rt staticlib envelope_door && rt staticlib ledger_door && rt staticlib chart_door; } >"$1/staticlib.log" 2>&1; then
+        rt staticlib envelope_door && rt staticlib ledger_door && rt staticlib chart_door && rt staticlib sheet_door; } >"$1/staticlib.log" 2>&1; then
         cat "$1/staticlib.log" >&2
         return 1
     fi
     {
         echo "create $1/libdoor.a"
-        printf 'addlib target/staticlib/lib%s_door.a\n' envelope ledger chart
+        printf 'addlib target/staticlib/lib%s_door.a\n' envelope ledger chart sheet
         echo save
     } | "${ar[@]}" -M
 }

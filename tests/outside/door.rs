@@ -64,6 +64,7 @@ extern "C" {
     ) -> u8;
     fn pz_first(chart: *const u8, n: usize, route: *mut u8, m: usize, length: usize) -> u8;
     fn pz_next(chart: *const u8, n: usize, route: *mut u8, m: usize, length: usize) -> u8;
+    fn pz_sheet(chart: *const u8, n: usize, text: *mut u8, m: usize, written: *mut u32) -> u8;
 }
 
 const GUARD: usize = 64;
@@ -420,4 +421,14 @@ pub fn next(chart: &[u8], route: &[u8], length: usize) -> Answer {
     let mut route = Lent::holding("route", route);
     let number = unsafe { pz_next(chart.start(), chart.size, route.start(), route.size, length) };
     Answer { number, lent: route, handed_in: vec![chart], beside: vec![] }
+}
+
+/// Calls pz_sheet and lends it a text buffer of this size.
+pub fn sheet(chart: &[u8], text_size: usize) -> Answer {
+    let mut chart = Lent::holding("chart", chart);
+    let mut text = Lent::blank("text", text_size);
+    let mut written = Beside::new("written", u32::BITS);
+    let number =
+        unsafe { pz_sheet(chart.start(), chart.size, text.start(), text.size, written.start()) };
+    Answer { number, lent: text, handed_in: vec![chart], beside: vec![written] }
 }

@@ -23,6 +23,8 @@ mod router;
 mod routing;
 mod rules;
 mod sequences;
+mod sheet;
+mod sheet_cases;
 mod trace;
 mod trace_call;
 mod trace_cases;
@@ -62,6 +64,7 @@ fn main() {
         chart_samples::GROUPS,
         trace_cases::GROUPS,
         trace_draws::GROUPS,
+        sheet_cases::GROUPS,
     ];
     let (checks, failed) = run_all(&groups.concat(), seed);
     println!("outside: {checks} checks, {failed} failed");

@@ -90,9 +90,9 @@ fn many(draw: &mut Draw, draft: &mut Draft) {
 const SHAPES: [fn(&mut Draw, &mut Draft); 10] =
     [sparse, sparse, row, row, ring, parallel, ladder, dense, apart, many];
 
-// Draws a chart asked from its first node to its last, or from any to any. Nodes and links then
-// change places.
-fn draw_net(draw: &mut Draw) -> Draft {
+/// Draws a chart asked from its first node to its last, or from any to any. Nodes and links then
+/// change places.
+pub fn draw_net(draw: &mut Draw) -> Draft {
     let any = draw.within(2, 16);
     let many = draw.within(12, 16);
     let count = draw.one_of(&[any, any, many, 16]);
@@ -123,8 +123,8 @@ fn shuffle<T>(draw: &mut Draw, items: &mut [T]) {
     }
 }
 
-// Switches links off until the routes are few.
-fn thin(draw: &mut Draw, draft: &mut Draft) -> Routes {
+/// Switches links off until the routes are few.
+pub fn thin(draw: &mut Draw, draft: &mut Draft) -> Routes {
     let few = draw.one_of(&FEW);
     loop {
         if let Some(routes) = Routes::of(&draft.lay(), few) {

@@ -1,0 +1,73 @@
+-- Document 01's sheet of S whole, computed from the definitions and from its 124 bytes; and sheets at the edges.
+use Prim.Native.Nat.{ℕ}
+use mathlib.Core.Path.{_≡_, refl}
+use mathlib.Core.List.{List, [], _∷_, _++_}
+use lib.ListN.{replicate}
+use Rattle.lists.specs.Places.{anyBelow, firstBelow, elementAt, firsts, row, joined}
+use Rattle.lists.specs.Refusals.{unlessRefused}
+use Rattle.address.specs.Address.{stationInRange, inRange, sameStation, sameAddress}
+use Rattle.chart.specs.Values.{noChart, nodeAt, linkAt, strayByte, nodeInRange, endInRange, linkInRange, standsAt, written, isEnd, endsAt, used}
+use Rattle.chart.specs.Numbers.{bothWritten, eitherUsed, nodeNumber, linkNumber, questionNumber}
+use Rattle.chart_read.specs.Fields.{bytesFrom, nodeIn, linkIn}
+use Rattle.chart_read.specs.Reading.{nothing, withNode, withLink, withQuestion, nodeLate, nodeBodyNumber, linkBodyNumber, questionBodyNumber, taking, bodyTaken, stepOf, walk, chartReadOf}
+use Rattle.routes.specs.Route.{also, only}
+use Rattle.routes.specs.All.{upFrom, linksFrom, via, over, tries, routes, tally, unmet, allFrom, allRoutes}
+use Rattle.chart_net.specs.Net.{stationAt, placeIn, crossed, farIn, chartNet, start, routesOf}
+use Rattle.text.specs.Marks.{ascii}
+use Rattle.text.specs.Decimal.{digits}
+use Rattle.sheet_lines.specs.Lines.{stationText, endText, labelText, nodeLine, linkLine, countsLine, questionLine, refusedLine}
+use Rattle.sheet_routes.specs.RouteLines.{placesText, routeLine, listText}
+use Rattle.sheet.specs.Sheet.{nodeLineAt, linkLineAt, chartText, readText, sheetText}
+
+-- S in bytes: four nodes, six links and the question
+unfoldable pub bytesS : List ℕ
+bytesS =
+    1 ∷ 0 ∷ 10 ∷ 9 ∷ 0 ∷ 1 ∷ 67 ∷ 111 ∷ 110 ∷ 116 ∷ 114 ∷ 111 ∷ 108 ∷
+    1 ∷ 0 ∷ 7 ∷ 9 ∷ 0 ∷ 20 ∷ 72 ∷ 105 ∷ 108 ∷ 108 ∷
+    1 ∷ 0 ∷ 7 ∷ 9 ∷ 0 ∷ 21 ∷ 72 ∷ 105 ∷ 108 ∷ 108 ∷
+    1 ∷ 0 ∷ 7 ∷ 9 ∷ 0 ∷ 30 ∷ 81 ∷ 117 ∷ 97 ∷ 121 ∷
+    2 ∷ 0 ∷ 9 ∷ 9 ∷ 0 ∷ 1 ∷ 2 ∷ 9 ∷ 0 ∷ 20 ∷ 1 ∷ 1 ∷
+    2 ∷ 0 ∷ 9 ∷ 9 ∷ 0 ∷ 1 ∷ 3 ∷ 9 ∷ 0 ∷ 21 ∷ 1 ∷ 1 ∷
+    2 ∷ 0 ∷ 9 ∷ 9 ∷ 0 ∷ 20 ∷ 2 ∷ 9 ∷ 0 ∷ 30 ∷ 1 ∷ 1 ∷
+    2 ∷ 0 ∷ 9 ∷ 9 ∷ 0 ∷ 21 ∷ 2 ∷ 9 ∷ 0 ∷ 30 ∷ 2 ∷ 1 ∷
+    2 ∷ 0 ∷ 9 ∷ 9 ∷ 0 ∷ 20 ∷ 3 ∷ 9 ∷ 0 ∷ 21 ∷ 3 ∷ 1 ∷
+    2 ∷ 0 ∷ 9 ∷ 9 ∷ 0 ∷ 1 ∷ 4 ∷ 9 ∷ 0 ∷ 30 ∷ 3 ∷ 0 ∷
+    3 ∷ 0 ∷ 6 ∷ 9 ∷ 0 ∷ 1 ∷ 9 ∷ 0 ∷ 30 ∷
+    []
+
+-- the sheet of S
+unfoldable pub textS : List ℕ
+textS =
+    ascii "nodes 4 links 6\n"
+    ++ ascii "0 9/1 Control\n"
+    ++ ascii "1 9/20 Hill\n"
+    ++ ascii "2 9/21 Hill\n"
+    ++ ascii "3 9/30 Quay\n"
+    ++ ascii "0 9/1/2 9/20/1 on\n"
+    ++ ascii "1 9/1/3 9/21/1 on\n"
+    ++ ascii "2 9/20/2 9/30/1 on\n"
+    ++ ascii "3 9/21/2 9/30/2 on\n"
+    ++ ascii "4 9/20/3 9/21/3 on\n"
+    ++ ascii "5 9/1/4 9/30/3 off\n"
+    ++ ascii "from 9/1 to 9/30\n"
+    ++ ascii "0 2\n"
+    ++ ascii "0 4 3\n"
+    ++ ascii "1 3\n"
+    ++ ascii "1 4 2\n"
+    ++ ascii "end\n"
+
+-- one node, 9/1 without a label, asked from it to itself
+abbrev pub bytesOne : List ℕ
+bytesOne = 1 ∷ 0 ∷ 3 ∷ 9 ∷ 0 ∷ 1 ∷ 3 ∷ 0 ∷ 6 ∷ 9 ∷ 0 ∷ 1 ∷ 9 ∷ 0 ∷ 1 ∷ []
+
+-- S; an empty label and an empty route; the empty input; a node out of range; 4,097 bytes
+pub record Cases : Type 0 where
+  pub whole : sheetText bytesS ≡ textS
+  pub one : sheetText bytesOne ≡ ascii "nodes 1 links 0\n0 9/1\nfrom 9/1 to 9/1\n-\nend\n"
+  pub none : sheetText [] ≡ ascii "refused 31 at 0\n"
+  pub bad : sheetText (1 ∷ 0 ∷ 3 ∷ 9 ∷ 4 ∷ 0 ∷ []) ≡ ascii "refused 24 at 0\n"
+  pub long : sheetText (replicate 4097 1) ≡ ascii "too long\n"
+
+pub cases : Cases
+unfolding sheetText readText chartText nodeLineAt linkLineAt joined stationText endText labelText nodeLine linkLine countsLine questionLine refusedLine placesText routeLine listText digits chartReadOf walk stepOf bodyTaken taking unlessRefused nothing noChart nodeBodyNumber linkBodyNumber questionBodyNumber nodeLate nodeIn linkIn bytesFrom withNode withLink withQuestion nodeNumber linkNumber questionNumber bothWritten eitherUsed nodeInRange linkInRange endInRange stationInRange inRange sameStation sameAddress written used standsAt endsAt isEnd nodeAt linkAt strayByte anyBelow firstBelow elementAt firsts row also only upFrom linksFrom via over tries routes tally unmet allFrom allRoutes stationAt placeIn crossed farIn chartNet start routesOf bytesS textS
+cases = record { whole = refl; one = refl; none = refl; bad = refl; long = refl }

@@ -1,0 +1,71 @@
+-- The printed sheet (document 01, "The printed sheet"): what is printed of an input, and what becomes of the buffer that it is written into.
+use Prim.Native.Nat.{ℕ}
+use mathlib.Core.Bool.{cond}
+use mathlib.Core.List.{List, _++_}
+use lib.ListN.{length, drop}
+use lib.Dec.{ltb}
+use Rattle.lists.specs.Places.{joined}
+use Rattle.lists.specs.Refusals.{refuse, unlessRefused}
+use Rattle.lists.specs.declared.Written.{Written}
+use Rattle.lists.specs.Writing.{wroteUnless}
+use Rattle.chart.specs.declared.Nodes.{Nodes}
+use Rattle.chart.specs.declared.Links.{Links}
+use Rattle.chart.specs.declared.Chart.{Chart}
+use Rattle.chart.specs.Values.{nodeAt, linkAt}
+use Rattle.chart_read.specs.declared.ChartRead.{ChartRead}
+use Rattle.chart_read.specs.Reading.{chartReadOf}
+use Rattle.chart_net.specs.Net.{routesOf}
+use Rattle.text.specs.Marks.{ascii}
+use Rattle.sheet_lines.specs.Lines.{nodeLine, linkLine, countsLine, questionLine, refusedLine}
+use Rattle.sheet_routes.specs.RouteLines.{listText}
+
+-- an input above 4,096 bytes is not looked at; no more than 1,000 routes are listed
+abbrev pub longestInput : ℕ
+longestInput = 4096
+
+abbrev pub mostRoutes : ℕ
+mostRoutes = 1000
+
+-- the one line of a longer input
+abbrev pub longLine : List ℕ
+longLine = ascii "too long\n"
+
+-- each place as it is
+abbrev pub place : ℕ → ℕ
+place i = i
+
+-- the line of the node at a place, and of the link at one
+unfoldable pub nodeLineAt : Nodes → ℕ → List ℕ
+nodeLineAt ns i = nodeLine i (nodeAt ns i)
+
+unfoldable pub linkLineAt : Links → ℕ → List ℕ
+linkLineAt ls i = linkLine i (linkAt ls i)
+
+-- the sheet of a chart: the counts, its nodes, its links, the question, and all its routes in order
+unfoldable pub chartText : Chart → List ℕ
+chartText c =
+    countsLine (c .nodes .count) (c .links .count)
+    ++ joined (nodeLineAt (c .nodes)) place (c .nodes .count)
+    ++ joined (linkLineAt (c .links)) place (c .links .count)
+    ++ questionLine (c .from) (c .to)
+    ++ listText mostRoutes (routesOf c)
+
+-- the sheet of a chart that was read, or the one line of a refused one
+unfoldable pub readText : ChartRead → List ℕ
+readText r = unlessRefused (r .number) (chartText (r .chart)) (refusedLine (r .number) (r .place))
+
+-- the sheet of an input
+unfoldable pub sheetText : List ℕ → List ℕ
+sheetText bytes = cond (ltb longestInput (length bytes)) longLine (readText (chartReadOf bytes))
+
+-- 10: the text does not fit
+unfoldable pub sheetRefusal : List ℕ → ℕ → ℕ
+sheetRefusal bytes room = refuse 10 (ltb room (length (sheetText bytes))) 0
+
+-- the number of bytes written, or 10
+unfoldable pub sheetWriteOf : List ℕ → ℕ → Written
+sheetWriteOf bytes room = wroteUnless (sheetRefusal bytes room) (length (sheetText bytes))
+
+-- what the buffer then holds: the text, and what stood after it; where it does not fit what it held
+unfoldable pub sheetAfter : List ℕ → List ℕ → List ℕ
+sheetAfter bytes out = unlessRefused (sheetRefusal bytes (length out)) (sheetText bytes ++ drop (length (sheetText bytes)) out) out

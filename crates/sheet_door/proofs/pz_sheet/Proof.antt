@@ -1,0 +1,57 @@
+-- `sheet_door::pz_sheet` meets its contract: the writer's own answer is what C gets, and no sheet is so long that its size would not fit 32 bits.
+use mathlib.Core.Path.{sym, ap, _∙_}
+use native.Mathlib.Omega.{arith}
+use borrow.Author.Needs.{needs}
+use Rattle.lists.specs.Writing.{writeNumber, writeCount}
+use Rattle.sheet.proofs.Promises.{wrote-short}
+use Rattle.sheet_door.proofs.pz_sheet.Statement.{statement}
+use Rattle.sheet_door.proofs.pz_sheet.Tie as tie
+
+write-sheet-requires : tie.Need-write-sheet-requires
+write-sheet-requires c κs = search needs
+
+enum-known-answer : tie.Need-enum-known-answer
+enum-known-answer c = search needs
+
+enum-told : tie.Need-enum-told
+enum-told c = search needs
+
+write-number-requires : tie.Need-write-number-requires
+write-number-requires c κs = search needs
+
+same-length : tie.Need-same-length
+same-length c = search needs
+
+returns : tie.Need-returns
+returns c =
+    let h = c .before .before .before .before .before .write-sheet .ensures in
+    (c .write-number .ensures ∙ h .1 .0, ap writeCount (sym (c .before .enum-told .given .1)) ∙ h .1 .1 .0, h .1 .1 .1)
+
+cast-written : tie.Need-cast-written
+cast-written c =
+    let n = c .before .answer .given .0 .0 in
+    let s = wrote-short (c .before .before .before .before .before .before .before .before .before .args .chart .now) (λ i. c .before .before .before .before .before .before .before .before .shared-slice-known .given i .fits) _ n (sym (c .before .before .before .before .before .write-sheet .ensures .0) ∙ c .before .answer .given .1) in
+    record { fits = omega arith }
+
+same-length-2 : tie.Need-same-length-2
+same-length-2 c = search needs
+
+returns-2 : tie.Need-returns-2
+returns-2 c =
+    let h = c .before .before .before .before .before .write-sheet .ensures in
+    let e = sym (c .before .answer .given .1) in
+    (ap writeNumber e ∙ h .1 .0, ap writeCount e ∙ h .1 .1 .0, h .1 .1 .1)
+
+pub pz-sheet-spec : {M : Type 1} → statement M
+pz-sheet-spec =
+    tie.close
+    (tie.spec
+    write-sheet-requires
+    enum-known-answer
+    enum-told
+    write-number-requires
+    same-length
+    returns
+    cast-written
+    same-length-2
+    returns-2)
