@@ -31,3 +31,13 @@ build_archive() {
 build_example() {
     "${cc[@]}" -std=c11 -O2 -Wall -Wextra -Werror -Iinclude -o "$1/$2" "examples/$2.c" "$1/libdoor.a"
 }
+
+# Builds the program that prints a chart's sheet into a folder; what rt says is shown only where it fails.
+build_print() {
+    mkdir -p "$1"
+    if ! rt check print >"$1/print.log" 2>&1; then
+        cat "$1/print.log" >&2
+        return 1
+    fi
+    cp target/bin/print "$1/print"
+}

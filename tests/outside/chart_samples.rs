@@ -1,5 +1,5 @@
-//! The sample charts of charts/, made again here and compared with the files, so that nobody has
-//! to believe bytes that can't be read. `outside charts` writes the files.
+//! The sample charts of charts/ and their sheets, made again here and compared with the files, so
+//! that nobody has to believe bytes that can't be read. `outside charts` writes the files.
 
 use crate::chart::{Refusal, NODE};
 use crate::chart_call::known_read;
@@ -7,6 +7,7 @@ use crate::chart_cases::{largest, S};
 use crate::chart_draft::{lay_pieces, Draft, DraftLink, Piece};
 use crate::draw::Draw;
 use crate::group::{Group, Outcome, Tests};
+use crate::sheet::{print, LONGEST_INPUT};
 use crate::trace::Routes;
 use crate::trace_call::walk_through;
 use crate::trace_cases::thousand;
@@ -25,7 +26,7 @@ type Sample = (&'static str, Refusal, usize, fn() -> Vec<u8>);
 
 const ACCEPTED: Refusal = (0, 0);
 
-const SAMPLES: [Sample; 21] = [
+const SAMPLES: [Sample; 24] = [
     ("s", ACCEPTED, 4, || S.to_vec()),
     ("unlabelled", ACCEPTED, 4, || {
         changed(|d| d.nodes.iter_mut().for_each(|node| node.label.clear()))
@@ -36,6 +37,7 @@ const SAMPLES: [Sample; 21] = [
     ("parallel", ACCEPTED, 6, || {
         changed(|d| d.links.push(DraftLink::new((9, 20, 60), (9, 30, 60))))
     }),
+    ("lines", ACCEPTED, 4, || changed(lines_for_labels)),
     ("largest", ACCEPTED, 3, || largest().lay()),
     ("thousand", ACCEPTED, 1000, || thousand(0).lay()),
     ("thousand-one", ACCEPTED, 1001, || thousand(1).lay()),
@@ -51,7 +53,24 @@ const SAMPLES: [Sample; 21] = [
     ("taken", (30, 55), 0, || changed(|d| d.links[1].ends[0].port = 2)),
     ("unasked", (31, 115), 0, || rearranged(|p| p.truncate(10))),
     ("empty", (31, 0), 0, Vec::new),
+    ("full", (22, 124), 0, || filled(LONGEST_INPUT)),
+    ("overfull", (22, 124), 0, || filled(LONGEST_INPUT + 1)),
 ];
+
+// Labels that look like other lines of a sheet.
+fn lines_for_labels(draft: &mut Draft) {
+    let lines = ["end", "0 2", "refused 31 at 0", "1 9/20 Hill"];
+    for (node, line) in draft.nodes.iter_mut().zip(lines) {
+        node.label = line.as_bytes().to_vec();
+    }
+}
+
+// Gives S with zeros after it, so many bytes in all.
+fn filled(size: usize) -> Vec<u8> {
+    let mut bytes = S.to_vec();
+    bytes.resize(size, 0);
+    bytes
+}
 
 // Gives S with one thing changed in its values.
 fn changed(change: fn(&mut Draft)) -> Vec<u8> {
@@ -67,15 +86,21 @@ fn rearranged(change: fn(&mut Vec<Piece>)) -> Vec<u8> {
     lay_pieces(&pieces)
 }
 
-fn file(name: &str) -> String {
-    format!("{FOLDER}/{name}.chart")
+fn file(name: &str, kind: &str) -> String {
+    format!("{FOLDER}/{name}.{kind}")
 }
 
-/// Writes the sample charts.
+fn sheet_of(chart: &[u8]) -> Vec<u8> {
+    print(chart, MANY).expect("a chart of few routes").into_bytes()
+}
+
+/// Writes the sample charts and their sheets.
 pub fn write() {
     fs::create_dir_all(FOLDER).expect("a folder for the charts");
     for (name, _, _, make) in SAMPLES {
-        fs::write(file(name), make()).expect("a chart that can be written");
+        let chart = make();
+        fs::write(file(name, "sheet"), sheet_of(&chart)).expect("a sheet that can be written");
+        fs::write(file(name, "chart"), chart).expect("a chart that can be written");
     }
     println!("charts: {} written", SAMPLES.len());
 }
@@ -83,10 +108,12 @@ pub fn write() {
 fn samples(group: &mut Group, _: &mut Draw) -> Outcome {
     for (name, refusal, count, make) in SAMPLES {
         let chart = make();
-        let stored = fs::read(file(name)).ok();
-        group.check(stored.as_ref() == Some(&chart), || {
-            format!("{} is not the chart that is made here", file(name))
-        })?;
+        for (kind, made) in [("chart", &chart), ("sheet", &sheet_of(&chart))] {
+            let stored = fs::read(file(name, kind)).ok();
+            group.check(stored.as_ref() == Some(made), || {
+                format!("{} is not the one that is made here", file(name, kind))
+            })?;
+        }
         known_read(group, name, refusal, &chart)?;
         let routes = Routes::of(&chart, MANY).expect("a chart of few routes");
         let numbers = walk_through(group, name, &chart, &routes, vec![0; 15], 0)?;

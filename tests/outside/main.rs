@@ -1,6 +1,6 @@
 //! The outside tests: the library behind its C interface, compared with what is written here a
 //! second time from the documents. A seed may be given as the first argument; with `charts` instead
-//! the sample charts are written and nothing is tested.
+//! the sample charts and their sheets are written and nothing is tested.
 
 mod bits;
 mod book;
