@@ -6,9 +6,12 @@ use address::Station;
 ghost use mathlib.Core.Path.{_≡_};
 ghost use Rattle.chart.specs.Values.{noChart};
 
+mod keys;
 mod numbers;
 mod ranges;
 
+pub use keys::end_key;
+pub use keys::station_key;
 pub use numbers::link_number;
 pub use numbers::node_number;
 pub use numbers::question_number;

@@ -1,121 +1,48 @@
-// The numbers 23 to 30 of one value, after the nodes and links before it.
+// The numbers 23 to 30 of one value, by the keys of the nodes and links before it.
 use crate::ChartNode;
 use crate::LONGEST_LABEL;
 use crate::Link;
-use crate::Links;
 use crate::MOST_LINKS;
 use crate::MOST_NODES;
-use crate::Nodes;
+use crate::keys::both_known;
+use crate::keys::either_used;
+use crate::keys::is_known;
 use crate::ranges::both_in_range;
 use crate::ranges::link_in_range;
 use crate::ranges::node_in_range;
-use address::Address;
 use address::Station;
-use address::same_address;
 use address::same_station;
 use address::station_of;
 ghost use mathlib.Core.Path.{_≡_};
-ghost use Prim.Native.Nat.{_≤_};
-ghost use Rattle.chart.specs.Values.{written, isEnd, used};
-ghost use Rattle.chart.specs.Numbers.{bothWritten, eitherUsed, nodeNumber, linkNumber, questionNumber};
+ghost use Rattle.address.specs.Address.{stationOf};
+ghost use Rattle.chart.specs.Keys.{known, bothKnown, eitherBy, nodeBy, linkBy, questionBy};
 
-// Whether a node at this station is among the nodes.
-fn is_written(nodes: Nodes, s: Station) -> bool
-    requires { ⌜ nodes .count ≤ 16 ⌝ }
-    ensures { λ r. ⌜ r ≡ written nodes s ⌝ }
+// The number that refuses a node after those with the first n keys, or 0. It is late after a link or the question.
+pub fn node_number(late: bool, keys: &[u32; 16], n: usize, node: ChartNode) -> u8
+    ensures { λ r. ⌜ r ≡ nodeBy late n (known (now (keys .entry)) n (node .station)) node ⌝ }
 {
-    let n = nodes.count as usize;
-    let mut i: usize = 0;
-    while i < n {
-        let e = nodes.items[i];
-        let t = e.station;
-        if same_station(t, s) {
-            return true;
-        }
-        i += 1;
-    }
-    false
-}
-
-// Whether both stations are among the nodes.
-fn both_written(nodes: Nodes, s: Station, t: Station) -> bool
-    requires { ⌜ nodes .count ≤ 16 ⌝ }
-    ensures { λ r. ⌜ r ≡ bothWritten nodes s t ⌝ }
-{
-    if !is_written(nodes, s) {
-        return false;
-    }
-    is_written(nodes, t)
-}
-
-// Whether the address is an end of the link.
-fn is_end(l: Link, e: Address) -> bool
-    ensures { λ r. ⌜ r ≡ isEnd e l ⌝ }
-{
-    let a = l.a;
-    if same_address(a, e) {
-        return true;
-    }
-    let b = l.b;
-    same_address(b, e)
-}
-
-// Whether the address is an end of one of the links.
-fn is_used(links: Links, e: Address) -> bool
-    requires { ⌜ links .count ≤ 48 ⌝ }
-    ensures { λ r. ⌜ r ≡ used links e ⌝ }
-{
-    let n = links.count as usize;
-    let mut i: usize = 0;
-    while i < n {
-        let l = links.items[i];
-        if is_end(l, e) {
-            return true;
-        }
-        i += 1;
-    }
-    false
-}
-
-// Whether one of the link's ends is an end of an earlier link.
-fn either_used(links: Links, l: Link) -> bool
-    requires { ⌜ links .count ≤ 48 ⌝ }
-    ensures { λ r. ⌜ r ≡ eitherUsed links l ⌝ }
-{
-    let a = l.a;
-    if is_used(links, a) {
-        return true;
-    }
-    let b = l.b;
-    is_used(links, b)
-}
-
-// The number that refuses a node after these, or 0. It is late after a link or the question.
-pub fn node_number(late: bool, nodes: Nodes, n: ChartNode) -> u8
-    ensures { λ r. ⌜ r ≡ nodeNumber late nodes n ⌝ }
-{
-    if LONGEST_LABEL < n.length {
+    if LONGEST_LABEL < node.length {
         return 23;
     }
-    if !node_in_range(n) {
+    if !node_in_range(node) {
         return 24;
     }
     if late {
         return 25;
     }
-    if MOST_NODES <= nodes.count {
+    if MOST_NODES as usize <= n {
         return 26;
     }
-    let s = n.station;
-    if is_written(nodes, s) {
+    let s = node.station;
+    if is_known(keys, n, s) {
         return 27;
     }
     0
 }
 
-// The number that refuses a link after these, or 0. It is late after the question.
-pub fn link_number(late: bool, nodes: Nodes, links: Links, l: Link) -> u8
-    ensures { λ r. ⌜ r ≡ linkNumber late nodes links l ⌝ }
+// The number that refuses a link after the nodes with the first n keys and the first m links, or 0. It is late after the question.
+pub fn link_number(late: bool, keys: &[u32; 16], n: usize, near: &[u32; 48], far: &[u32; 48], m: usize, l: Link) -> u8
+    ensures { λ r. ⌜ r ≡ linkBy late n m (bothKnown (now (keys .entry)) n (stationOf (l .a)) (stationOf (l .b))) (eitherBy (now (near .entry)) (now (far .entry)) m l) l ⌝ }
 {
     if !link_in_range(l) {
         return 24;
@@ -123,29 +50,29 @@ pub fn link_number(late: bool, nodes: Nodes, links: Links, l: Link) -> u8
     if late {
         return 25;
     }
-    if MOST_NODES < nodes.count {
+    if (MOST_NODES as usize) < n {
         return 26;
     }
-    if MOST_LINKS <= links.count {
+    if MOST_LINKS as usize <= m {
         return 26;
     }
     let a = station_of(l.a);
     let b = station_of(l.b);
-    if !both_written(nodes, a, b) {
+    if !both_known(keys, n, a, b) {
         return 28;
     }
     if same_station(a, b) {
         return 29;
     }
-    if either_used(links, l) {
+    if either_used(near, far, m, l) {
         return 30;
     }
     0
 }
 
-// The number that refuses a question after these nodes, or 0. It is late after another.
-pub fn question_number(late: bool, nodes: Nodes, from: Station, to: Station) -> u8
-    ensures { λ r. ⌜ r ≡ questionNumber late nodes from to ⌝ }
+// The number that refuses a question after the nodes with the first n keys, or 0. It is late after another.
+pub fn question_number(late: bool, keys: &[u32; 16], n: usize, from: Station, to: Station) -> u8
+    ensures { λ r. ⌜ r ≡ questionBy late n (bothKnown (now (keys .entry)) n from to) from to ⌝ }
 {
     if !both_in_range(from, to) {
         return 24;
@@ -153,10 +80,10 @@ pub fn question_number(late: bool, nodes: Nodes, from: Station, to: Station) -> 
     if late {
         return 25;
     }
-    if MOST_NODES < nodes.count {
+    if (MOST_NODES as usize) < n {
         return 26;
     }
-    if !both_written(nodes, from, to) {
+    if !both_known(keys, n, from, to) {
         return 28;
     }
     0

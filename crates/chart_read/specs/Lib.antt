@@ -1,3 +1,5 @@
 pub mod Fields
+pub mod Held
 pub mod Reading
+pub mod ByKeys
 pub mod Cases
