@@ -1,4 +1,3 @@
 pub mod Values
 pub mod Numbers
 pub mod Sample
-pub mod Keys

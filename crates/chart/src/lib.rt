@@ -1,20 +1,10 @@
-// The chart as values (document 01, "The chart"): its nodes, its links and its question, and the number that refuses one of them after those before it.
+// The chart as values (document 01, "The chart"): its nodes, its links and its question.
 use address::Address;
 use address::Node;
 use address::Port;
 use address::Station;
 ghost use mathlib.Core.Path.{_≡_};
 ghost use Rattle.chart.specs.Values.{noChart};
-
-mod keys;
-mod numbers;
-mod ranges;
-
-pub use keys::end_key;
-pub use keys::station_key;
-pub use numbers::link_number;
-pub use numbers::node_number;
-pub use numbers::question_number;
 
 pub const MOST_NODES: u8 = 16;
 

@@ -15,9 +15,9 @@ use Rattle.chart.specs.declared.Link.{Link}
 use Rattle.chart.specs.declared.Chart.{Chart}
 use Rattle.chart.specs.Values.{noNode, noLink, noChart}
 use Rattle.chart.specs.Numbers.{nodeNumber, linkNumber}
-use Rattle.chart.specs.Keys.{StationKeyed, EndKeyed, KeyedNodes, KeyedLinks}
+use Rattle.chart_keys.specs.Keys.{StationKeyed, EndKeyed, KeyedNodes, KeyedLinks}
 use Rattle.chart.proofs.Laws.{node-passed, link-passed}
-use Rattle.chart.proofs.ByKeys.{keyed-node, keyed-link}
+use Rattle.chart_keys.proofs.ByKeys.{keyed-node, keyed-link}
 use Rattle.chart_read.specs.declared.ChartRead.{ChartRead}
 use Rattle.chart_read.specs.Held.{SoFar, Step}
 use Rattle.chart_read.specs.Fields.{tagAt, bodyAt, pastField, nodeIn, linkIn}

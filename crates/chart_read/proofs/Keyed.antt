@@ -12,9 +12,9 @@ use Rattle.lists.specs.Refusals.{refuse}
 use Rattle.lists.proofs.Refusals.{pass}
 use Rattle.address.specs.Address.{stationOf}
 use Rattle.address.specs.Wide.{stationIn, addressIn}
-use Rattle.chart.specs.Keys.{endKey, EndKeyed, KeyedNodes, KeyedLinks, known, bothKnown, eitherBy, nodeBy, linkBy, questionBy}
+use Rattle.chart_keys.specs.Keys.{endKey, EndKeyed, KeyedNodes, KeyedLinks, known, bothKnown, eitherBy, nodeBy, linkBy, questionBy}
 use Rattle.chart.specs.Numbers.{nodeNumber, linkNumber, questionNumber}
-use Rattle.chart.proofs.ByKeys.{node-keyed, link-keyed, question-keyed}
+use Rattle.chart_keys.proofs.ByKeys.{node-keyed, link-keyed, question-keyed}
 use Rattle.chart_read.specs.Held.{SoFar, Taken, Step}
 use Rattle.chart_read.specs.Fields.{tagAt, bodyAt, pastField, cutShort, nodeIn, linkIn}
 use Rattle.chart_read.specs.Reading.{nothing, withNode, withLink, withQuestion, nodeLate, nodeBodyNumber, linkBodyNumber, questionBodyNumber, taking, bodyTaken, stepTo, stepOf}

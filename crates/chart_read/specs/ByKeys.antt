@@ -7,7 +7,7 @@ use lib.Dec.{ltb, eqb}
 use Rattle.lists.specs.Refusals.{refuse}
 use Rattle.address.specs.Address.{stationOf}
 use Rattle.address.specs.Wide.{stationIn}
-use Rattle.chart.specs.Keys.{known, bothKnown, eitherBy, nodeBy, linkBy, questionBy}
+use Rattle.chart_keys.specs.Keys.{known, bothKnown, eitherBy, nodeBy, linkBy, questionBy}
 use Rattle.chart_read.specs.Fields.{nodeTag, linkTag, questionTag, shortestNode, longestNode, linkLength, questionLength, tagAt, bodyAt, cutShort, nodeIn, linkIn}
 
 unfoldable pub nodeBodyBy : Bool → List ℕ → ℕ → List ℕ → ℕ

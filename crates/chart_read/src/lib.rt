@@ -60,13 +60,13 @@ pub fn read_chart(bytes: &[u8]) -> ChartRead
         let next = body + lists::word_at(bytes, at + 1) as usize;
         if bytes[at] == NODE_TAG {
             let node = node_in(&bytes[body..next]);
-            keys[n] = chart::station_key(node.station);
+            keys[n] = chart_keys::station_key(node.station);
             nodes[n] = node;
             n += 1;
         } else if bytes[at] == LINK_TAG {
             let link = link_in(&bytes[body..next]);
-            near[m] = chart::end_key(link.a);
-            far[m] = chart::end_key(link.b);
+            near[m] = chart_keys::end_key(link.a);
+            far[m] = chart_keys::end_key(link.b);
             links[m] = link;
             m += 1;
         } else {

@@ -33,7 +33,7 @@ fn node_body_number(late: bool, keys: &[u32; 16], n: usize, b: &[u8]) -> u8
         return 23;
     }
     let node = node_in(b);
-    chart::node_number(late, keys, n, node)
+    chart_keys::node_number(late, keys, n, node)
 }
 
 // A link's body.
@@ -47,7 +47,7 @@ fn link_body_number(asked: bool, keys: &[u32; 16], n: usize, near: &[u32; 48], f
         return 24;
     }
     let l = link_in(b);
-    chart::link_number(asked, keys, n, near, far, m, l)
+    chart_keys::link_number(asked, keys, n, near, far, m, l)
 }
 
 // The question's body.
@@ -59,7 +59,7 @@ fn question_body_number(asked: bool, keys: &[u32; 16], n: usize, b: &[u8]) -> u8
     }
     let from = wide::station_in(b, 0);
     let to = wide::station_in(b, 3);
-    chart::question_number(asked, keys, n, from, to)
+    chart_keys::question_number(asked, keys, n, from, to)
 }
 
 // Whether a node comes too late.

@@ -5,7 +5,7 @@ use borrow.Author.Tests.{lt-ltb, le-ltb, eq-eqb, ne-eqb}
 use Rattle.lists.proofs.Chains.{stops, passes}
 use Rattle.address.specs.Address.{stationOf}
 use Rattle.chart.specs.declared.Link.{Link}
-use Rattle.chart.specs.Keys.{bothKnown, eitherBy, linkBy}
+use Rattle.chart_keys.specs.Keys.{bothKnown, eitherBy, linkBy}
 use Rattle.chart_read.specs.ByKeys.{linkBodyBy}
 use borrow.Author.Needs.{needs}
 use Rattle.chart_read.proofs.numbers.link_body_number.Statement.{statement}

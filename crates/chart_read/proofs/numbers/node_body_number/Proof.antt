@@ -3,7 +3,7 @@ use mathlib.Core.Path.{ap, _∙_}
 use borrow.Author.Tests.{lt-ltb, le-ltb}
 use Rattle.lists.proofs.Chains.{stops, passes}
 use Rattle.chart.specs.declared.ChartNode.{ChartNode}
-use Rattle.chart.specs.Keys.{known, nodeBy}
+use Rattle.chart_keys.specs.Keys.{known, nodeBy}
 use Rattle.chart_read.specs.ByKeys.{nodeBodyBy}
 use borrow.Author.Needs.{needs}
 use Rattle.chart_read.proofs.numbers.node_body_number.Statement.{statement}

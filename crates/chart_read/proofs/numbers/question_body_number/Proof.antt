@@ -4,7 +4,7 @@ use mathlib.Core.Bool.{not}
 use borrow.Author.Tests.{eq-eqb, ne-eqb}
 use Rattle.lists.proofs.Chains.{stops, passes}
 use Rattle.address.specs.declared.Station.{Station}
-use Rattle.chart.specs.Keys.{bothKnown, questionBy}
+use Rattle.chart_keys.specs.Keys.{bothKnown, questionBy}
 use Rattle.chart_read.specs.ByKeys.{questionBodyBy}
 use borrow.Author.Needs.{needs}
 use Rattle.chart_read.proofs.numbers.question_body_number.Statement.{statement}
