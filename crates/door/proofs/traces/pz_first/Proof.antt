@@ -1,35 +1,26 @@
+-- `door::traces::pz_first` meets its contract: the reader's number leaves the buffer; else the search over what is kept of the chart answers.
+use Rattle.door.proofs.RouteLaws.{first-unread, first-read}
 use borrow.Author.Needs.{needs}
 use Rattle.door.proofs.traces.pz_first.Statement.{statement}
 use Rattle.door.proofs.traces.pz_first.Tie as tie
-use Rattle.door.proofs.traces.pz_first.Reads as reads
-use Rattle.door.proofs.traces.pz_first.Lts as lts
-use Rattle.chart_read.proofs.read_chart.Reads as read-chart-reads
-use Rattle.door.proofs.traces.one_number.Reads as one-number-reads
-use Rattle.trace.proofs.first_kept.Reads as first-kept-reads
 
--- src/traces.rt:21:9
 read-chart-requires : tie.Need-read-chart-requires
 read-chart-requires c κs = search needs
 
--- src/traces.rt:24:9
 returns : tie.Need-returns
-returns c = ?
+returns c = first-unread (c .before .before .before .before .args .chart .now) (c .before .before .before .before .args .route .now) (c .before .read-chart .ensures) (c .if1 .taken)
 
--- src/traces.rt:27:16
 first-kept-requires : tie.Need-first-kept-requires
 first-kept-requires c κs = search needs
 
--- src/traces.rt:27:5
 one-number-requires : tie.Need-one-number-requires
 one-number-requires c κs = search needs
 
--- src/traces.rt:17:1
 same-length : tie.Need-same-length
 same-length c = search needs
 
--- src/traces.rt:17:1
 returns-2 : tie.Need-returns-2
-returns-2 c = ?
+returns-2 c = first-read (c .before .before .before .before .before .before .before .before .before .before .args .chart .now) (c .before .before .before .before .before .before .before .before .before .before .args .route .now) (c .before .before .before .before .before .before .before .read-chart .ensures) (λ i. c .before .before .before .before .before .before .before .before .before .shared-slice-known .given i .fits) (c .before .before .before .before .before .before .if1 .left) (c .one-number .ensures) (c .before .before .before .first-kept .ensures .0) (c .before .before .before .first-kept .ensures .1)
 
 pub pz-first-spec : {M : Type 1} → statement M
 pz-first-spec =

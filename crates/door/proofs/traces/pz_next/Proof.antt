@@ -1,35 +1,26 @@
+-- `door::traces::pz_next` meets its contract: the reader's number leaves the buffer; else the search over what is kept of the chart answers.
+use Rattle.door.proofs.RouteLaws.{next-unread, next-read}
 use borrow.Author.Needs.{needs}
 use Rattle.door.proofs.traces.pz_next.Statement.{statement}
 use Rattle.door.proofs.traces.pz_next.Tie as tie
-use Rattle.door.proofs.traces.pz_next.Reads as reads
-use Rattle.door.proofs.traces.pz_next.Lts as lts
-use Rattle.chart_read.proofs.read_chart.Reads as read-chart-reads
-use Rattle.door.proofs.traces.one_number.Reads as one-number-reads
-use Rattle.trace.proofs.next_kept.Reads as next-kept-reads
 
--- src/traces.rt:35:9
 read-chart-requires : tie.Need-read-chart-requires
 read-chart-requires c κs = search needs
 
--- src/traces.rt:38:9
 returns : tie.Need-returns
-returns c = ?
+returns c = next-unread (c .before .before .before .before .args .chart .now) (c .before .before .before .before .args .route .now) (c .before .read-chart .ensures) (c .before .before .before .before .args .length) (c .if1 .taken)
 
--- src/traces.rt:41:16
 next-kept-requires : tie.Need-next-kept-requires
 next-kept-requires c κs = search needs
 
--- src/traces.rt:41:5
 one-number-requires : tie.Need-one-number-requires
 one-number-requires c κs = search needs
 
--- src/traces.rt:31:1
 same-length : tie.Need-same-length
 same-length c = search needs
 
--- src/traces.rt:31:1
 returns-2 : tie.Need-returns-2
-returns-2 c = ?
+returns-2 c = next-read (c .before .before .before .before .before .before .before .before .before .before .args .chart .now) (c .before .before .before .before .before .before .before .before .before .before .args .route .now) (c .before .before .before .before .before .before .before .read-chart .ensures) (λ i. c .before .before .before .before .before .before .before .before .before .shared-slice-known .given i .fits) (c .before .before .before .before .before .before .before .before .before .before .args .length) (c .before .before .before .before .before .before .if1 .left) (c .one-number .ensures) (c .before .before .before .next-kept .ensures .0) (c .before .before .before .next-kept .ensures .1)
 
 pub pz-next-spec : {M : Type 1} → statement M
 pz-next-spec =
