@@ -61,13 +61,13 @@ pub record Holding (bytes : List ℕ) (t : Turn) : Type 0 where
   pub long-far : length (t .far) ≡ 48
 
 -- before the first field
-abbrev pub firstTurn : Chart → Turn
-firstTurn c =
+abbrev pub firstTurn : ChartNode → Link → Turn
+firstTurn n l =
     record {
-      nodes = c .nodes .items;
-      links = c .links .items;
-      from = c .from;
-      to = c .to;
+      nodes = replicate 16 n;
+      links = replicate 48 l;
+      from = n .station;
+      to = n .station;
       keys = replicate 16 0;
       near = replicate 48 0;
       far = replicate 48 0;
@@ -77,7 +77,7 @@ firstTurn c =
       at = 0;
     }
 
-nothing-yet : (bytes : List ℕ) → Holding bytes (firstTurn noChart)
+nothing-yet : (bytes : List ℕ) → Holding bytes (firstTurn noNode noLink)
 unfolding noChart nothing
 nothing-yet bytes =
     record {
@@ -93,8 +93,9 @@ nothing-yet bytes =
       long-far = refl;
     }
 
-pub holding-start : (bytes : List ℕ) (c : Chart) → c ≡ noChart → Holding bytes (firstTurn c)
-holding-start bytes c e = subst (λ (x : Chart). Holding bytes (firstTurn x)) (sym e) (nothing-yet bytes)
+pub holding-start : (bytes : List ℕ) (n : ChartNode) (l : Link) → n ≡ noNode → l ≡ noLink → Holding bytes (firstTurn n l)
+holding-start bytes n l e f =
+    subst (λ (x : ChartNode). Holding bytes (firstTurn x l)) (sym e) (subst (λ (y : Link). Holding bytes (firstTurn noNode y)) (sym f) (nothing-yet bytes))
 
 abbrev pub numberOf : List ℕ → Turn → ℕ
 numberOf bytes t = fieldBy (t .asked) (t .keys) (t .n) (t .near) (t .far) (t .m) bytes (t .at)

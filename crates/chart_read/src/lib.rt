@@ -37,13 +37,12 @@ fn refused_at(number: u8, place: usize) -> ChartRead
 pub fn read_chart(bytes: &[u8]) -> ChartRead
     ensures { λ r. ⌜ r ≡ chartReadOf (now (bytes .entry)) ⌝ }
 {
-    let none = chart::no_chart();
-    let no_nodes = none.nodes;
-    let no_links = none.links;
-    let mut nodes = no_nodes.items;
-    let mut links = no_links.items;
-    let mut from = none.from;
-    let mut to = none.to;
+    let no_node = chart::no_node();
+    let no_link = chart::no_link();
+    let mut nodes = [no_node; 16];
+    let mut links = [no_link; 48];
+    let mut from = no_node.station;
+    let mut to = no_node.station;
     let mut keys = [0u32; 16];
     let mut near = [0u32; 48];
     let mut far = [0u32; 48];

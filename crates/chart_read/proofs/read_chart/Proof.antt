@@ -26,10 +26,10 @@ turn a =
     record { nodes = l .nodes; links = l .links; from = l .from; to = l .to; keys = l .keys; near = l .near; far = l .far; n = l .n; m = l .m; asked = l .asked; at = l .at }
 
 abbrev input : tie.At-loop Inv-loop μ-loop → List ℕ
-input a = a .before .before .before .before .before .before .before .before .before .args .bytes .now
+input a = a .before .before .before .before .before .before .args .bytes .now
 
 abbrev bytes : (a : tie.At-loop Inv-loop μ-loop) → Bytes (input a)
-bytes a i = a .before .before .before .before .before .before .before .before .shared-slice-known .given i .fits
+bytes a i = a .before .before .before .before .before .shared-slice-known .given i .fits
 
 -- what a field's number of 0 says, where its length is known
 module _ (c : tie.After-word-at Inv-loop μ-loop) where
@@ -42,11 +42,14 @@ module _ (c : tie.After-word-at Inv-loop μ-loop) where
   whole : turn here .at + 3 + c .word-at .result ≤ length (input here)
   whole = past (input here) (turn here) (here .loop .inv) (bytes here) (c .before .before .before .before .before .before .loop-test .taken) (c .word-at .result) (c .word-at .ensures) zero
 
-no-chart-requires : tie.Need-no-chart-requires Inv-loop μ-loop
-no-chart-requires c κs = search needs
+no-node-requires : tie.Need-no-node-requires Inv-loop μ-loop
+no-node-requires c κs = search needs
+
+no-link-requires : tie.Need-no-link-requires Inv-loop μ-loop
+no-link-requires c κs = search needs
 
 loop-holds : tie.Need-loop-holds Inv-loop μ-loop
-loop-holds c = holding-start (c .before .before .before .before .before .before .before .before .args .bytes .now) (c .before .before .before .before .before .before .no-chart .result) (c .before .before .before .before .before .before .no-chart .ensures)
+loop-holds c = holding-start (c .before .before .before .before .before .args .bytes .now) (c .before .before .before .no-node .result) (c .before .before .no-link .result) (c .before .before .before .no-node .ensures) (c .before .before .no-link .ensures)
 
 field-number-requires : tie.Need-field-number-requires Inv-loop μ-loop
 field-number-requires c κs = search needs
@@ -215,11 +218,11 @@ refused-at-requires-2 c κs = search needs
 returns-2 : tie.Need-returns-2 Inv-loop μ-loop
 returns-2 c = c .refused-at2 .ensures ∙ ends-unasked (input (c .before .before .before)) (turn (c .before .before .before)) (c .before .before .before .loop .inv) (c .before .before .loop-test .left) (not-true _ (c .before .if4 .taken))
 
-cast-t62 : tie.Need-cast-t62 Inv-loop μ-loop
-cast-t62 c = search needs
+cast-t61 : tie.Need-cast-t61 Inv-loop μ-loop
+cast-t61 c = search needs
 
-cast-t65 : tie.Need-cast-t65 Inv-loop μ-loop
-cast-t65 c = search needs
+cast-t64 : tie.Need-cast-t64 Inv-loop μ-loop
+cast-t64 c = search needs
 
 returns-3 : tie.Need-returns-3 Inv-loop μ-loop
 returns-3 c = ends-asked (input (c .before .before)) (turn (c .before .before)) (c .before .before .loop .inv) (c .before .loop-test .left) (not-false _ (c .if4 .left))
@@ -230,7 +233,8 @@ read-chart-spec =
     (tie.spec
     Inv-loop
     μ-loop
-    no-chart-requires
+    no-node-requires
+    no-link-requires
     loop-holds
     field-number-requires
     refused-at-requires
@@ -281,6 +285,6 @@ read-chart-spec =
     loop-again-3
     refused-at-requires-2
     returns-2
-    cast-t62
-    cast-t65
+    cast-t61
+    cast-t64
     returns-3)
