@@ -1,8 +1,8 @@
 // Keys of stations and of ends: one number each, to see whether one is among those before it.
-use chart::Link;
-use chart::Nodes;
 use address::Address;
 use address::Station;
+use chart::Link;
+use chart::Nodes;
 ghost use mathlib.Core.Path.{_≡_};
 ghost use mathlib.Core.Bool.{_||_};
 ghost use Prim.Native.Nat.{_≤_};

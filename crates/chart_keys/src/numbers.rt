@@ -1,9 +1,4 @@
 // The numbers 23 to 30 of one value, by the keys of the nodes and links before it.
-use chart::ChartNode;
-use chart::LONGEST_LABEL;
-use chart::Link;
-use chart::MOST_LINKS;
-use chart::MOST_NODES;
 use crate::keys::both_known;
 use crate::keys::either_used;
 use crate::keys::is_known;
@@ -13,6 +8,11 @@ use crate::ranges::node_in_range;
 use address::Station;
 use address::same_station;
 use address::station_of;
+use chart::ChartNode;
+use chart::LONGEST_LABEL;
+use chart::Link;
+use chart::MOST_LINKS;
+use chart::MOST_NODES;
 ghost use mathlib.Core.Path.{_≡_};
 ghost use Rattle.address.specs.Address.{stationOf};
 ghost use Rattle.chart_keys.specs.Keys.{known, bothKnown, eitherBy, nodeBy, linkBy, questionBy};
@@ -41,7 +41,15 @@ pub fn node_number(late: bool, keys: &[u32; 16], n: usize, node: ChartNode) -> u
 }
 
 // The number that refuses a link after the nodes with the first n keys and the first m links, or 0. It is late after the question.
-pub fn link_number(late: bool, keys: &[u32; 16], n: usize, near: &[u32; 48], far: &[u32; 48], m: usize, l: Link) -> u8
+pub fn link_number(
+    late: bool,
+    keys: &[u32; 16],
+    n: usize,
+    near: &[u32; 48],
+    far: &[u32; 48],
+    m: usize,
+    l: Link,
+) -> u8
     ensures { λ r. ⌜ r ≡ linkBy late n m (bothKnown (now (keys .entry)) n (stationOf (l .a)) (stationOf (l .b))) (eitherBy (now (near .entry)) (now (far .entry)) m l) l ⌝ }
 {
     if !link_in_range(l) {

@@ -1,9 +1,9 @@
 // What the values of a chart may be: refusal 24.
-use chart::ChartNode;
-use chart::Link;
 use address::Address;
 use address::Station;
 use address::station_in_range;
+use chart::ChartNode;
+use chart::Link;
 ghost use mathlib.Core.Path.{_≡_};
 ghost use mathlib.Core.Bool.{_&&_};
 ghost use Prim.Native.Nat.{_≤_};

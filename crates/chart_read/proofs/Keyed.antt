@@ -63,7 +63,7 @@ module _ (s : SoFar) (keys near far : List ℕ) (hn : KeyedNodes (s .chart .node
 
   body-same : (tag : ℕ) (b : List ℕ) → Bytes b → bodyBy (s .asked) keys (s .chart .nodes .count) near far (s .chart .links .count) tag b ≡ bodyTaken s tag b .number
   unfolding bodyBy bodyTaken taking nodeLate
-  body-same tag b h = 
+  body-same tag b h =
       by-tag (eqb tag 1) (eqb tag 2) (eqb tag 3)
       (taking (nodeBodyNumber s b) (withNode s (nodeIn b)))
       (taking (linkBodyNumber s b) (withLink s (linkIn b)))
@@ -78,7 +78,7 @@ module _ (s : SoFar) (keys near far : List ℕ) (hn : KeyedNodes (s .chart .node
   pub field-same : (bytes : List ℕ) → Bytes bytes → (at : ℕ)
       → fieldBy (s .asked) keys (s .chart .nodes .count) near far (s .chart .links .count) bytes at ≡ stepOf s bytes at .number
   unfolding fieldBy stepOf taking
-  field-same bytes h at = 
+  field-same bytes h at =
       by-cut (cutShort bytes at) (stepTo (length bytes) (taking 21 nothing)) (stepTo (pastField bytes at) (bodyTaken s (tagAt bytes at) (bodyAt bytes at)))
       refl (body-same (tagAt bytes at) (bodyAt bytes at) (bytes-body bytes h at))
 

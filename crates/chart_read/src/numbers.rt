@@ -37,7 +37,15 @@ fn node_body_number(late: bool, keys: &[u32; 16], n: usize, b: &[u8]) -> u8
 }
 
 // A link's body.
-fn link_body_number(asked: bool, keys: &[u32; 16], n: usize, near: &[u32; 48], far: &[u32; 48], m: usize, b: &[u8]) -> u8
+fn link_body_number(
+    asked: bool,
+    keys: &[u32; 16],
+    n: usize,
+    near: &[u32; 48],
+    far: &[u32; 48],
+    m: usize,
+    b: &[u8],
+) -> u8
     ensures { λ r. ⌜ r ≡ linkBodyBy asked (now (keys .entry)) n (now (near .entry)) (now (far .entry)) m (now (b .entry)) ⌝ }
 {
     if b.len() != LINK_LENGTH {
@@ -73,7 +81,16 @@ fn node_late(asked: bool, m: usize) -> bool
 }
 
 // A body, by its tag.
-fn body_number(asked: bool, keys: &[u32; 16], n: usize, near: &[u32; 48], far: &[u32; 48], m: usize, tag: u8, b: &[u8]) -> u8
+fn body_number(
+    asked: bool,
+    keys: &[u32; 16],
+    n: usize,
+    near: &[u32; 48],
+    far: &[u32; 48],
+    m: usize,
+    tag: u8,
+    b: &[u8],
+) -> u8
     ensures { λ r. ⌜ r ≡ bodyBy asked (now (keys .entry)) n (now (near .entry)) (now (far .entry)) m tag (now (b .entry)) ⌝ }
 {
     if tag == NODE_TAG {
@@ -90,7 +107,16 @@ fn body_number(asked: bool, keys: &[u32; 16], n: usize, near: &[u32; 48], far: &
 }
 
 // The field that begins at a place.
-pub fn field_number(asked: bool, keys: &[u32; 16], n: usize, near: &[u32; 48], far: &[u32; 48], m: usize, bytes: &[u8], at: usize) -> u8
+pub fn field_number(
+    asked: bool,
+    keys: &[u32; 16],
+    n: usize,
+    near: &[u32; 48],
+    far: &[u32; 48],
+    m: usize,
+    bytes: &[u8],
+    at: usize,
+) -> u8
     requires { ⌜ at < length (now bytes) ⌝ }
     ensures { λ r. ⌜ r ≡ fieldBy asked (now (keys .entry)) n (now (near .entry)) (now (far .entry)) m (now (bytes .entry)) at ⌝ }
 {

@@ -62,7 +62,13 @@ fn nodes_number(nodes: Nodes, keys: &[u32; 16]) -> u8
 }
 
 // The number of the first bad link, or 0.
-fn links_number(nodes: Nodes, keys: &[u32; 16], links: Links, near: &[u32; 48], far: &[u32; 48]) -> u8
+fn links_number(
+    nodes: Nodes,
+    keys: &[u32; 16],
+    links: Links,
+    near: &[u32; 48],
+    far: &[u32; 48],
+) -> u8
     requires { ⌜ (links .count ≤ 48) × KeyedNodes nodes (now keys) × KeyedLinks links (now near) (now far) ⌝ }
     ensures { λ r. ⌜ r ≡ firstNumber (linkNumberAt nodes links) (links .count) ⌝ }
 {

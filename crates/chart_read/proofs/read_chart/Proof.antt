@@ -88,7 +88,7 @@ part-node-in-end : tie.Need-part-node-in-end Inv-loop μ-loop
 part-node-in-end c = omega (arith, whole (c .before .before))
 
 node-in-requires : tie.Need-node-in-requires Inv-loop μ-loop
-node-in-requires c κs = 
+node-in-requires c κs =
     let w = c .before .before .before in
     node-length (input (here w)) (turn (here w)) (here w .loop .inv) (bytes (here w)) (w .before .before .before .before .before .before .loop-test .taken) (w .word-at .result) (w .word-at .ensures) (zero w) (c .before .if2 .taken)
 
@@ -99,7 +99,7 @@ mul-keys : tie.Need-mul-keys Inv-loop μ-loop
 mul-keys c = search needs
 
 array-write-keys : tie.Need-array-write-keys Inv-loop μ-loop
-array-write-keys c = 
+array-write-keys c =
     let w = c .before .before .before .before .before in
     omega (arith, node-room (input (here w)) (turn (here w)) (here w .loop .inv) (bytes (here w)) (w .before .before .before .before .before .before .loop-test .taken) (w .word-at .result) (w .word-at .ensures) (zero w) (c .before .before .before .if2 .taken), here w .loop .inv .long-keys)
 
@@ -107,7 +107,7 @@ mul-nodes : tie.Need-mul-nodes Inv-loop μ-loop
 mul-nodes c = search needs
 
 array-set-from-nodes : tie.Need-array-set-from-nodes Inv-loop μ-loop
-array-set-from-nodes c = 
+array-set-from-nodes c =
     let w = c .before .before .before .before .before in
     omega (arith, node-room (input (here w)) (turn (here w)) (here w .loop .inv) (bytes (here w)) (w .before .before .before .before .before .before .loop-test .taken) (w .word-at .result) (w .word-at .ensures) (zero w) (c .before .before .before .if2 .taken), here w .loop .inv .long-nodes)
 
@@ -127,7 +127,7 @@ part-link-in-end : tie.Need-part-link-in-end Inv-loop μ-loop
 part-link-in-end c = omega (arith, whole (c .before .before .before .before))
 
 link-in-requires : tie.Need-link-in-requires Inv-loop μ-loop
-link-in-requires c κs = 
+link-in-requires c κs =
     let w = c .before .before .before .before .before in
     link-length (input (here w)) (turn (here w)) (here w .loop .inv) (bytes (here w)) (w .before .before .before .before .before .before .loop-test .taken) (w .word-at .result) (w .word-at .ensures) (zero w) (c .before .before .before .if2 .left) (c .before .if3 .taken)
 
@@ -138,7 +138,7 @@ mul-near : tie.Need-mul-near Inv-loop μ-loop
 mul-near c = search needs
 
 array-write-near : tie.Need-array-write-near Inv-loop μ-loop
-array-write-near c = 
+array-write-near c =
     let w = c .before .before .before .before .before .before .before in
     omega (arith, link-room (input (here w)) (turn (here w)) (here w .loop .inv) (bytes (here w)) (w .before .before .before .before .before .before .loop-test .taken) (w .word-at .result) (w .word-at .ensures) (zero w) (c .before .before .before .before .before .if2 .left) (c .before .before .before .if3 .taken), here w .loop .inv .long-near)
 
@@ -149,7 +149,7 @@ mul-far : tie.Need-mul-far Inv-loop μ-loop
 mul-far c = search needs
 
 array-write-far : tie.Need-array-write-far Inv-loop μ-loop
-array-write-far c = 
+array-write-far c =
     let w = c .before .before .before .before .before .before .before .before in
     omega (arith, link-room (input (here w)) (turn (here w)) (here w .loop .inv) (bytes (here w)) (w .before .before .before .before .before .before .loop-test .taken) (w .word-at .result) (w .word-at .ensures) (zero w) (c .before .before .before .before .before .before .if2 .left) (c .before .before .before .before .if3 .taken), here w .loop .inv .long-far)
 
@@ -157,7 +157,7 @@ mul-links : tie.Need-mul-links Inv-loop μ-loop
 mul-links c = search needs
 
 array-set-from-links : tie.Need-array-set-from-links Inv-loop μ-loop
-array-set-from-links c = 
+array-set-from-links c =
     let w = c .before .before .before .before .before .before .before .before in
     omega (arith, link-room (input (here w)) (turn (here w)) (here w .loop .inv) (bytes (here w)) (w .before .before .before .before .before .before .loop-test .taken) (w .word-at .result) (w .word-at .ensures) (zero w) (c .before .before .before .before .before .before .if2 .left) (c .before .before .before .before .if3 .taken), here w .loop .inv .long-links)
 
@@ -192,7 +192,7 @@ loop-less : tie.Need-loop-less Inv-loop μ-loop
 loop-less c = search needs
 
 loop-again : tie.Need-loop-again Inv-loop μ-loop
-loop-again c = 
+loop-again c =
     let w = c .before .before .before .before .before in
     holding-node (input (here w)) (turn (here w)) (here w .loop .inv) (bytes (here w)) (w .before .before .before .before .before .before .loop-test .taken) (w .word-at .result) (w .word-at .ensures) (zero w) (c .before .before .before .if2 .taken) (c .before .node-in .result) (c .station-key .result) (c .before .node-in .ensures) (c .station-key .ensures)
 
@@ -200,7 +200,7 @@ loop-less-2 : tie.Need-loop-less-2 Inv-loop μ-loop
 loop-less-2 c = search needs
 
 loop-again-2 : tie.Need-loop-again-2 Inv-loop μ-loop
-loop-again-2 c = 
+loop-again-2 c =
     let w = c .before .before .before .before .before .before .before .before in
     holding-link (input (here w)) (turn (here w)) (here w .loop .inv) (bytes (here w)) (w .before .before .before .before .before .before .loop-test .taken) (w .word-at .result) (w .word-at .ensures) (zero w) (c .before .before .before .before .before .before .if2 .left) (c .before .before .before .before .if3 .taken) (c .before .before .link-in .result) (c .before .end-key .result) (c .end-key2 .result) (c .before .before .link-in .ensures) (c .before .end-key .ensures) (c .end-key2 .ensures)
 
@@ -208,7 +208,7 @@ loop-less-3 : tie.Need-loop-less-3 Inv-loop μ-loop
 loop-less-3 c = search needs
 
 loop-again-3 : tie.Need-loop-again-3 Inv-loop μ-loop
-loop-again-3 c = 
+loop-again-3 c =
     let w = c .before .before .before .before .before .before .before .before in
     holding-question (input (here w)) (turn (here w)) (here w .loop .inv) (bytes (here w)) (w .before .before .before .before .before .before .loop-test .taken) (w .word-at .result) (w .word-at .ensures) (zero w) (c .before .before .before .before .before .before .if2 .left) (c .before .before .before .before .if3 .left) (c .before .before .station-in .result) (c .station-in2 .result) (c .before .before .station-in .ensures) (c .station-in2 .ensures)
 

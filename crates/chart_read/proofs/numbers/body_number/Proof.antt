@@ -16,7 +16,7 @@ node-body-number-requires c κs = search needs
 
 returns : tie.Need-returns
 unfolding bodyBy
-returns c = 
+returns c =
     let s = c .before .before .before .before in
     c .node-body-number .ensures ∙ ap (λ (late : Bool). nodeBodyBy late (s .args .keys .now) (s .args .n) (s .args .b .now)) (c .before .node-late .ensures) ∙ tag-first _ _ (eq-eqb _ _ (c .before .before .if1 .taken))
 

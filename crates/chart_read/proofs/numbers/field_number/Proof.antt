@@ -12,7 +12,7 @@ sub-if1 : tie.Need-sub-if1
 sub-if1 c = search needs
 
 returns : tie.Need-returns
-returns c = 
+returns c =
     let s = c .before .before .before in
     field-cut (s .args .asked) (s .args .keys .now) (s .args .n) (s .args .near .now) (s .args .far .now) (s .args .m) (s .args .bytes .now) (s .args .at) (omega arith)
 
@@ -32,7 +32,7 @@ sub-if2 : tie.Need-sub-if2
 sub-if2 c = search needs
 
 returns-2 : tie.Need-returns-2
-returns-2 c = 
+returns-2 c =
     let s = c .before .before .before .before .before in
     field-cut (s .args .asked) (s .args .keys .now) (s .args .n) (s .args .near .now) (s .args .far .now) (s .args .m) (s .args .bytes .now) (s .args .at) (omega (arith, c .before .word-at .ensures))
 
@@ -52,7 +52,7 @@ body-number-requires : tie.Need-body-number-requires
 body-number-requires c κs = search needs
 
 returns-3 : tie.Need-returns-3
-returns-3 c = 
+returns-3 c =
     let s = c .before .before .before .before .before .before .before in
     field-whole (s .args .asked) (s .args .keys .now) (s .args .n) (s .args .near .now) (s .args .far .now) (s .args .m) (s .args .bytes .now) (s .args .at) _ _ (c .before .before .before .word-at .ensures) (omega arith) (c .body-number .ensures)
 

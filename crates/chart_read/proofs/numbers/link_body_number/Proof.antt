@@ -30,7 +30,7 @@ link-number-requires c κs = search needs
 
 returns-3 : tie.Need-returns-3
 unfolding linkBodyBy
-returns-3 c = 
+returns-3 c =
     let s = c .before .before .before .before .before .before in
     passes 23 (ap not (eq-eqb _ _ (c .before .before .before .before .if1 .left)))
     (passes 24 (le-ltb _ _ (c .before .before .if2 .left))

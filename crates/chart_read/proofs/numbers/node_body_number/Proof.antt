@@ -25,7 +25,7 @@ node-number-requires c κs = search needs
 
 returns-3 : tie.Need-returns-3
 unfolding nodeBodyBy
-returns-3 c = 
+returns-3 c =
     let s = c .before .before .before .before .before in
     passes 23 (le-ltb _ _ (c .before .before .before .if1 .left))
     (passes 23 (le-ltb _ _ (c .before .before .if2 .left))

@@ -25,7 +25,7 @@ question-number-requires c κs = search needs
 
 returns-2 : tie.Need-returns-2
 unfolding questionBodyBy
-returns-2 c = 
+returns-2 c =
     let s = c .before .before .before .before .before in
     passes 23 (ap not (eq-eqb _ _ (c .before .before .before .if1 .left)))
     (c .question-number .ensures ∙ ap₂ (λ (x y : Station). questionBy (s .args .asked) (s .args .n) (bothKnown (s .args .keys .now) (s .args .n) x y) x y) (c .before .before .station-in .ensures) (c .before .station-in2 .ensures))

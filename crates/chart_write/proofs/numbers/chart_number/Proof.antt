@@ -56,7 +56,7 @@ question-number-requires c κs = search needs
 
 returns-5 : tie.Need-returns-5
 unfolding chartNumber valuesNumber
-returns-5 c = 
+returns-5 c =
     let s = c .before .before .before .before .before .before .before .before .before .before .before .before .before .before .before .before .before .before .before .before in
     passes 26 (le-ltb _ _ (c .before .before .before .before .before .before .before .before .before .before .before .before .before .before .before .before .before .if1 .left)) (passes 26 (le-ltb _ _ (c .before .before .before .before .before .before .before .before .before .before .before .before .before .before .if2 .left)) (or-passes (sym (c .before .before .before .before .before .before .before .before .before .before .before .nodes-number .ensures) ∙ c .before .before .before .before .before .before .before .before .before .before .if3 .left) (or-passes (sym (c .before .before .before .before .links-number .ensures) ∙ c .before .before .before .if4 .left) (c .question-number .ensures ∙ question-keyed (s .args .c .nodes) _ (keyed-of _ _ (c .before .before .before .before .before .before .before .before .before .before .before .before .before .before .before .before .before .if1 .left) (c .before .before .before .before .before .before .before .before .before .before .before .before .before .station-keys .ensures)) _ (s .args .c .from) (s .args .c .to) (from-fits s) (to-fits s)))))
 
