@@ -1,5 +1,5 @@
 -- Laws of keys: two stations are one exactly if their keys are, so the numbers by keys are those of the values.
-use Prim.Native.Nat.{ℕ, _+_, _*_, _<_, _≤_}
+use Prim.Native.Nat.{ℕ, zero, suc, _+_, _*_, _<_, _≤_}
 use mathlib.Core.Path.{_≡_, refl, sym, ap, ap₂, subst, _∙_}
 use mathlib.Core.List.{List}
 use mathlib.Core.Bool.{Bool, true, false, _&&_, _||_}
@@ -11,6 +11,7 @@ use borrow.Author.Tests.{eqb-true, eqb-false, eq-eqb}
 use Rattle.lists.specs.Places.{anyBelow, elementAt, row}
 use Rattle.lists.proofs.Places.{any-agree, row-at, row-next}
 use Rattle.lists.proofs.Bools.{both-same, and-left, and-right, and-both}
+use Rattle.lists.proofs.Chains.{or-left, or-skip}
 use Rattle.chart.proofs.Laws.{node-read}
 use Rattle.address.specs.declared.Station.{Station}
 use Rattle.address.specs.declared.Address.{Address}
@@ -21,7 +22,7 @@ use Rattle.chart.specs.declared.Nodes.{Nodes}
 use Rattle.chart.specs.declared.Links.{Links}
 use Rattle.chart.specs.Values.{noNode, noLink, nodeAt, linkAt, standsAt, written, isEnd, endsAt, used}
 use Rattle.chart.specs.Numbers.{bothWritten, eitherUsed, nodeNumber, linkNumber, questionNumber}
-use Rattle.chart_keys.specs.Keys.{stationKey, endKey, nodeKeyAt, KeysOf, StationKeyed, EndKeyed, KeyedNodes, KeyedLinks, keyIs, known, bothKnown, endIs, usedBy, eitherBy, nodeBy, linkBy, questionBy}
+use Rattle.chart_keys.specs.Keys.{stationKey, endKey, nodeKeyAt, KeysOf, StationKeyed, EndKeyed, KeyedNodes, KeyedLinks, keyIs, known, bothKnown, usedBy, eitherBy, nodeBy, linkBy, questionBy}
 
 -- ---- as the code has them: with the key at hand
 
@@ -29,9 +30,25 @@ pub known-by : (keys : List ℕ) (n : ℕ) (s : Station) {k : ℕ} → StationKe
 unfolding known
 known-by keys n s e = ap (λ (k : ℕ). anyBelow (keyIs keys k) n) (e .key)
 
-pub used-by : (near far : List ℕ) (m : ℕ) (a : Address) {k : ℕ} → EndKeyed a k → anyBelow (endIs near far k) m ≡ usedBy near far m a
+pub used-near : (near far : List ℕ) (m : ℕ) (a : Address) {k : ℕ} → EndKeyed a k → anyBelow (keyIs near k) m ≡ true → true ≡ usedBy near far m a
 unfolding usedBy
-used-by near far m a e = ap (λ (k : ℕ). anyBelow (endIs near far k) m) (e .key)
+used-near near far m a e h = sym (or-left _ (ap (λ (k : ℕ). anyBelow (keyIs near k) m) (sym (e .key)) ∙ h))
+
+pub used-far : (near far : List ℕ) (m : ℕ) (a : Address) {k : ℕ} → EndKeyed a k → anyBelow (keyIs near k) m ≡ false → anyBelow (keyIs far k) m ≡ usedBy near far m a
+unfolding usedBy
+used-far near far m a e h = ap (λ (k : ℕ). anyBelow (keyIs far k) m) (e .key) ∙ sym (or-skip (ap (λ (k : ℕ). anyBelow (keyIs near k) m) (sym (e .key)) ∙ h))
+
+-- a test of two kinds holds somewhere exactly if one of the two does
+shuffle : (a b c d : Bool) → ((a || b) || (c || d)) ≡ ((a || c) || (b || d))
+shuffle true b c d = refl
+shuffle false true true d = refl
+shuffle false true false d = refl
+shuffle false false c d = refl
+
+any-or : (p q : ℕ → Bool) (n : ℕ) → (anyBelow p n || anyBelow q n) ≡ anyBelow (λ i. p i || q i) n
+unfolding anyBelow
+any-or p q zero = refl
+any-or p q (suc n) = sym (shuffle (anyBelow p n) (anyBelow q n) (p n) (q n)) ∙ ap (λ (b : Bool). b || (p n || q n)) (any-or p q n)
 
 -- ---- one key, one station; one key, one end
 
@@ -94,13 +111,13 @@ module _ (ns : Nodes) (keys : List ℕ) (h : KeyedNodes ns keys) where
   question-keyed late s t f g = ap (λ (w : Bool). questionBy late (ns .count) w s t) (both-keyed s t f g)
 
   module _ (ls : Links) (near far : List ℕ) (g : KeyedLinks ls near far) where
-    ends-keyed : (e : Address) (k : ℕ) → EndKeyed e k → (i : ℕ) → i < ls .count → endIs near far (endKey e) i ≡ endsAt ls e i
-    unfolding endIs keyIs endsAt isEnd
+    ends-keyed : (e : Address) (k : ℕ) → EndKeyed e k → (i : ℕ) → i < ls .count → (keyIs near (endKey e) i || keyIs far (endKey e) i) ≡ endsAt ls e i
+    unfolding keyIs endsAt isEnd
     ends-keyed e k f i l = ap₂ _||_ (end-same (linkAt ls i .a) e _ k (g .a i l) f) (end-same (linkAt ls i .b) e _ k (g .b i l) f)
 
     used-keyed : (e : Address) (k : ℕ) → EndKeyed e k → usedBy near far (ls .count) e ≡ used ls e
     unfolding usedBy used
-    used-keyed e k f = any-agree _ _ (ls .count) (ends-keyed e k f)
+    used-keyed e k f = any-or (keyIs near (endKey e)) (keyIs far (endKey e)) (ls .count) ∙ any-agree _ _ (ls .count) (ends-keyed e k f)
 
     either-keyed : (l : Link) (j k : ℕ) → EndKeyed (l .a) j → EndKeyed (l .b) k → eitherBy near far (ls .count) l ≡ eitherUsed ls l
     unfolding eitherBy eitherUsed

@@ -71,13 +71,9 @@ known keys n s = anyBelow (keyIs keys (stationKey s)) n
 unfoldable pub bothKnown : List ℕ → ℕ → Station → Station → Bool
 bothKnown keys n s t = known keys n s && known keys n t
 
--- one of the two keys at a place is this one
-unfoldable pub endIs : List ℕ → List ℕ → ℕ → ℕ → Bool
-endIs near far k i = keyIs near k i || keyIs far k i
-
--- the end's key is among those of the first m links
+-- the end's key is among those of the first m links: of their first ends, or of their second
 unfoldable pub usedBy : List ℕ → List ℕ → ℕ → Address → Bool
-usedBy near far m e = anyBelow (endIs near far (endKey e)) m
+usedBy near far m e = anyBelow (keyIs near (endKey e)) m || anyBelow (keyIs far (endKey e)) m
 
 -- one of a link's ends has a key among those of the first m links
 unfoldable pub eitherBy : List ℕ → List ℕ → ℕ → Link → Bool

@@ -4,10 +4,9 @@ use address::Station;
 use chart::Link;
 use chart::Nodes;
 ghost use mathlib.Core.Path.{_≡_};
-ghost use mathlib.Core.Bool.{_||_};
 ghost use Prim.Native.Nat.{_≤_};
-ghost use lib.Dec.{eqb};
-ghost use Rattle.chart_keys.specs.Keys.{StationKeyed, EndKeyed, KeysOf, known, bothKnown, usedBy, eitherBy};
+ghost use Rattle.lists.specs.Places.{anyBelow};
+ghost use Rattle.chart_keys.specs.Keys.{StationKeyed, EndKeyed, KeysOf, keyIs, known, bothKnown, usedBy, eitherBy};
 
 // The three bytes of a station as one number.
 pub fn station_key(s: Station) -> u32
@@ -69,31 +68,32 @@ pub fn both_known(keys: &[u32; 16], n: usize, s: Station, t: Station) -> bool
     is_known(keys, n, t)
 }
 
-// Whether one of two keys is this one.
-fn either_is(a: u32, b: u32, k: u32) -> bool
-    ensures { λ r. ⌜ r ≡ (eqb a k || eqb b k) ⌝ }
-{
-    if a == k {
-        return true;
-    }
-    b == k
-}
-
-// Whether an end's key is among those of the first m links. No early way out: a loop without one is compared several keys at a time.
-fn is_used(near: &[u32; 48], far: &[u32; 48], m: usize, e: Address) -> bool
+// Whether a key is among the first m. No early way out: a loop without one is compared several keys at a time.
+fn has_key(keys: &[u32; 48], m: usize, k: u32) -> bool
     requires { ⌜ m ≤ 48 ⌝ }
-    ensures { λ r. ⌜ r ≡ usedBy (now (near .entry)) (now (far .entry)) m e ⌝ }
+    ensures { λ r. ⌜ r ≡ anyBelow (keyIs (now (keys .entry)) k) m ⌝ }
 {
-    let k = end_key(e);
     let mut found = false;
     let mut i: usize = 0;
     while i < m {
-        if either_is(near[i], far[i], k) {
+        if keys[i] == k {
             found = true;
         }
         i += 1;
     }
     found
+}
+
+// Whether an end's key is among those of the first m links.
+fn is_used(near: &[u32; 48], far: &[u32; 48], m: usize, e: Address) -> bool
+    requires { ⌜ m ≤ 48 ⌝ }
+    ensures { λ r. ⌜ r ≡ usedBy (now (near .entry)) (now (far .entry)) m e ⌝ }
+{
+    let k = end_key(e);
+    if has_key(near, m, k) {
+        return true;
+    }
+    has_key(far, m, k)
 }
 
 // Whether one of the link's ends has a key among those of the first m links.

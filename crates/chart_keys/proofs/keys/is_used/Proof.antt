@@ -1,78 +1,28 @@
--- `chart_keys::keys::is_used` meets its contract. The loop's invariant: found says whether an end before i has the key.
-use Prim.Native.Nat.{_≤_, _-_}
-use mathlib.Core.Path.{_≡_, sym, _∙_}
-use mathlib.Core.Logic.{⊎-elim}
-use lib.Dec.{eqb}
+-- `chart_keys::keys::is_used` meets its contract: the first ends decide, else the second.
+use mathlib.Core.Path.{sym, _∙_}
 use borrow.Author.Needs.{needs}
-use native.Mathlib.Omega.{arith}
-use Rattle.lists.specs.Places.{anyBelow}
-use Rattle.lists.proofs.Places.{any-none, any-met, any-unmet}
-use Rattle.chart_keys.specs.Keys.{keyIs, endIs, usedBy}
-use Rattle.chart_keys.proofs.ByKeys.{used-by}
+use Rattle.chart_keys.proofs.ByKeys.{used-near, used-far}
 use Rattle.chart_keys.proofs.keys.is_used.Statement.{statement}
 use Rattle.chart_keys.proofs.keys.is_used.Tie as tie
 
-abbrev Inv-loop : tie.InvT-loop
-Inv-loop near far m k found₀ i₀ found i = (i ≤ m) × (found ≡ anyBelow (endIs near far k) i)
-
-abbrev μ-loop : tie.MeasureT-loop
-μ-loop near far m k found₀ i₀ found i = m - i
-
-end-key-requires : tie.Need-end-key-requires Inv-loop μ-loop
+end-key-requires : tie.Need-end-key-requires
 end-key-requires c κs = search needs
 
-loop-holds : tie.Need-loop-holds Inv-loop μ-loop
-loop-holds c = (omega arith, sym (any-none _))
+has-key-requires : tie.Need-has-key-requires
+has-key-requires c κs = search needs
 
-mul-either-is : tie.Need-mul-either-is Inv-loop μ-loop
-mul-either-is c = search needs
-
-element-copy-out-either-is : tie.Need-element-copy-out-either-is Inv-loop μ-loop
-element-copy-out-either-is c = search needs
-
-mul-either-is-2 : tie.Need-mul-either-is-2 Inv-loop μ-loop
-mul-either-is-2 c = search needs
-
-element-copy-out-either-is-2 : tie.Need-element-copy-out-either-is-2 Inv-loop μ-loop
-element-copy-out-either-is-2 c = search needs
-
-either-is-requires : tie.Need-either-is-requires Inv-loop μ-loop
-either-is-requires c κs = search needs
-
-add-i : tie.Need-add-i Inv-loop μ-loop
-add-i c = search needs
-
-loop-less : tie.Need-loop-less Inv-loop μ-loop
-loop-less c = search needs
-
-loop-again : tie.Need-loop-again Inv-loop μ-loop
-unfolding endIs keyIs
-loop-again c =
-    let s = c .before .before .before .before .before .before .before in
-    let l = c .before .before .before .before .before .loop in
-    let p = endIs (s .args .near .now) (s .args .far .now) (c .before .before .before .before .before .before .end-key .result) in
-    (omega arith, ⊎-elim (λ w. w .1 ∙ any-met p (l .i) (sym (c .before .either-is .ensures) ∙ w .0 .taken)) (λ w. w .1 ∙ any-unmet p (l .i) (l .inv .1) (sym (c .before .either-is .ensures) ∙ w .0 .left)) (c .if1 .came))
-
-returns : tie.Need-returns Inv-loop μ-loop
+returns : tie.Need-returns
 returns c =
-    let l = c .before .loop in
-    let e : l .i ≡ c .before .before .before .args .m = omega arith in
-    l .inv .1 ∙ rw e (used-by _ _ _ _ (c .before .before .end-key .ensures))
+    let a = c .before .before .before .args in
+    used-near (a .near .now) (a .far .now) (a .m) (a .e) (c .before .before .end-key .ensures) (sym (c .before .has-key .ensures) ∙ c .if1 .taken)
+
+has-key-requires-2 : tie.Need-has-key-requires-2
+has-key-requires-2 c κs = search needs
+
+returns-2 : tie.Need-returns-2
+returns-2 c =
+    let a = c .before .before .before .before .args in
+    c .has-key2 .ensures ∙ used-far (a .near .now) (a .far .now) (a .m) (a .e) (c .before .before .before .end-key .ensures) (sym (c .before .before .has-key .ensures) ∙ c .before .if1 .left)
 
 pub is-used-spec : {M : Type 1} → statement M
-is-used-spec =
-    tie.close
-    (tie.spec
-    Inv-loop
-    μ-loop
-    end-key-requires
-    loop-holds
-    mul-either-is
-    element-copy-out-either-is
-    mul-either-is-2
-    element-copy-out-either-is-2
-    either-is-requires
-    add-i
-    loop-less
-    loop-again
-    returns)
+is-used-spec = tie.close (tie.spec end-key-requires has-key-requires returns has-key-requires-2 returns-2)
