@@ -1,17 +1,10 @@
-// The chart as values (document 01, "The chart"): its nodes, its links and its question, and the number that refuses one of them after those before it.
+// The chart as values (document 01, "The chart"): its nodes, its links and its question.
 use address::Address;
 use address::Node;
 use address::Port;
 use address::Station;
 ghost use mathlib.Core.Path.{_≡_};
-ghost use Rattle.chart.specs.Values.{noChart};
-
-mod numbers;
-mod ranges;
-
-pub use numbers::link_number;
-pub use numbers::node_number;
-pub use numbers::question_number;
+ghost use Rattle.chart.specs.Values.{noNode, noLink, noChart};
 
 pub const MOST_NODES: u8 = 16;
 
@@ -53,6 +46,37 @@ pub struct Chart {
     pub to: Station,
 }
 
+// What stands at an unused place of nodes: every number 0.
+pub fn no_node() -> ChartNode
+    ensures { λ r. ⌜ r ≡ noNode ⌝ }
+{
+    let station = Station {
+        brigade: 0,
+        node: Node(0),
+    };
+    ChartNode {
+        station: station,
+        length: 0,
+        label: [0u8; 24],
+    }
+}
+
+// What stands at an unused place of links: every number 0, and off.
+pub fn no_link() -> Link
+    ensures { λ r. ⌜ r ≡ noLink ⌝ }
+{
+    let end = Address {
+        brigade: 0,
+        node: Node(0),
+        port: Port(0),
+    };
+    Link {
+        a: end,
+        b: end,
+        on: false,
+    }
+}
+
 // The chart that stands beside a refusal: every number 0.
 pub fn no_chart() -> Chart
     ensures { λ r. ⌜ r ≡ noChart ⌝ }
@@ -61,22 +85,8 @@ pub fn no_chart() -> Chart
         brigade: 0,
         node: Node(0),
     };
-    let label = [0u8; 24];
-    let node = ChartNode {
-        station: station,
-        length: 0,
-        label: label,
-    };
-    let end = Address {
-        brigade: 0,
-        node: Node(0),
-        port: Port(0),
-    };
-    let link = Link {
-        a: end,
-        b: end,
-        on: false,
-    };
+    let node = no_node();
+    let link = no_link();
     let nodes = Nodes {
         count: 0,
         items: [node; 16],

@@ -24,7 +24,7 @@ pub extern "C" fn pz_first(chart: &[u8], route: &mut [u8], length: usize) -> u8
         return number;
     }
     let c = read.chart;
-    one_number(trace::first(c, route))
+    one_number(trace::first_kept(c, route))
 }
 
 // Writes the route after the one of this length.
@@ -38,5 +38,5 @@ pub extern "C" fn pz_next(chart: &[u8], route: &mut [u8], length: usize) -> u8
         return number;
     }
     let c = read.chart;
-    one_number(trace::next(c, route, length))
+    one_number(trace::next_kept(c, route, length))
 }

@@ -1,13 +1,14 @@
 -- Laws of a chart's image: the stores that make it, and what C gets, from what each step gives.
-use Prim.Native.Nat.{ℕ, _+_, _*_, _<_, _≤_}
-use mathlib.Core.Path.{_≡_, refl, sym, ap, _∙_}
+use Prim.Native.Nat.{ℕ, zero, suc, _+_, _-_, _*_, _<_, _≤_}
+use mathlib.Core.Path.{_≡_, refl, sym, ap, ap₂, subst, _∙_}
 use mathlib.Core.List.{List, [], _∷_, _++_}
+use native.Mathlib.Nat.{le-refl}
 use native.Mathlib.Omega.{arith}
-use lib.ListN.{length, length-append}
+use lib.ListN.{length, take, replicate, length-append}
 use lib.Seq.{sets, take-all}
 use borrow.Author.Tests.{lt-ltb, le-ltb}
 use Rattle.lists.specs.Places.{elementAt, firsts, joined}
-use Rattle.lists.proofs.Places.{length-firsts, length-joined}
+use Rattle.lists.proofs.Places.{length-firsts, length-joined, joined-padded, row-past}
 use Rattle.lists.proofs.Runs.{firsts-take}
 use Rattle.lists.proofs.Stores.{sets-append, joined-stored}
 use Rattle.lists.proofs.Refusals.{or-refused, refused}
@@ -19,13 +20,15 @@ use Rattle.address.specs.Wide.{stationBytes}
 use Rattle.chart.specs.declared.ChartNode.{ChartNode}
 use Rattle.chart.specs.declared.Link.{Link}
 use Rattle.chart.specs.declared.Nodes.{Nodes}
+use Rattle.chart.specs.declared.Links.{Links}
 use Rattle.chart.specs.declared.Chart.{Chart}
-use Rattle.chart.specs.Values.{nodeAt, linkAt}
+use Rattle.chart.specs.Values.{noLink, nodeAt, linkAt}
 use Rattle.chart_read.specs.declared.ChartRead.{ChartRead}
 use Rattle.chart_read.specs.Reading.{chartReadOf}
-use Rattle.chart_write.specs.Writing.{linkBody, chartBytes, chartRefusal, chartAfter}
-use Rattle.chart_write.proofs.Promises.{place-near}
-use Rattle.chart_image.specs.Chart.{nodeImage, chartImage, readNumberFor, fieldPlace, imageAfter, chartIn, writeNumberFor, writtenFor, chartAfterFor}
+use Rattle.chart_write.specs.Writing.{linkBody, chartBytes, chartRefusal, chartAfter, tidy}
+use Rattle.chart_write.proofs.Promises.{place-near, read-back, write-undoes-read}
+use Rattle.chart_write.proofs.WriteBack.{read-good}
+use Rattle.chart_image.specs.Chart.{nodeImage, chartImage, SpareLinks, readNumberFor, fieldPlace, imageAfter, chartIn, writeNumberFor, writtenFor, chartAfterFor}
 
 pub length-link : (l : Link) → length (linkBody l) ≡ 9
 unfolding linkBody
@@ -50,6 +53,38 @@ node-stored b at n h =
 pub nodes-next : (b : List ℕ) (ns : Nodes) (i : ℕ) {n : ChartNode} → n ≡ nodeAt ns i
     → sets (sets b 8 (joined nodeImage (nodeAt ns) i)) (8 + 28 * i) (nodeImage n) ≡ sets b 8 (joined nodeImage (nodeAt ns) (i + 1))
 nodes-next b ns i e = rw e (joined-stored nodeImage 28 length-node b 8 (nodeAt ns) i)
+
+-- the links that are there, and zeros
+take-zeros : (a b : ℕ) → take {A = ℕ} a (replicate (a + b) 0) ≡ replicate a 0
+take-zeros zero b = refl
+take-zeros (suc a) b =
+    let e : suc a + b ≡ suc (a + b) = omega arith in
+    ap (λ (k : ℕ). take {A = ℕ} (suc a) (replicate k 0)) e ∙ ap (λ (l : List ℕ). 0 ∷ l) (take-zeros a b)
+
+pub links-padded : (b : List ℕ) (ls : Links) → SpareLinks ls
+    → sets (sets b 456 (joined linkBody (linkAt ls) (ls .count))) (456 + 9 * ls .count) (take {A = ℕ} (432 - 9 * ls .count) (replicate 432 0)) ≡ sets b 456 (joined linkBody (linkAt ls) 48)
+unfolding linkBody
+links-padded b ls h =
+    let n = ls .count in
+    let f = h .few in
+    let a : 432 - 9 * n ≡ 9 * (48 - n) = omega arith in
+    let w : 432 ≡ 9 * (48 - n) + 9 * n = omega arith in
+    let m : n + (48 - n) ≡ 48 = omega arith in
+    let z : take {A = ℕ} (432 - 9 * n) (replicate 432 0) ≡ replicate (9 * (48 - n)) 0 = ap₂ (λ (x y : ℕ). take {A = ℕ} x (replicate y 0)) a w ∙ take-zeros (9 * (48 - n)) (9 * n) in
+    let l : 456 + 9 * n ≡ 456 + length (joined linkBody (linkAt ls) n) = ap (λ (x : ℕ). 456 + x) (sym (length-joined linkBody 9 length-link (linkAt ls) n)) in
+    ap (sets (sets b 456 (joined linkBody (linkAt ls) n)) (456 + 9 * n)) z
+    ∙ sets-append (joined linkBody (linkAt ls) n) b 456 (replicate (9 * (48 - n)) 0) (456 + 9 * n) l
+    ∙ ap (sets b 456) (sym (joined-padded linkBody 9 noLink (linkAt ls) (linkAt ls) n (λ i k. refl) (h .none) refl (48 - n)) ∙ ap (joined linkBody (linkAt ls)) m)
+
+-- a chart that is read has nothing past its links
+pub read-spare : (bytes : List ℕ) → Bytes bytes → chartReadOf bytes .number ≡ 0 → SpareLinks (chartReadOf bytes .chart .links)
+unfolding tidy linkAt
+read-spare bytes s h =
+    let c = chartReadOf bytes .chart in
+    let u = read-good bytes s .undone h in
+    let z = write-undoes-read bytes s h bytes (le-refl (length bytes)) .number in
+    let e : c ≡ tidy c = ap (λ (b : List ℕ). chartReadOf b .chart) (sym (u .same)) ∙ ap (λ (r : ChartRead). r .chart) (read-back c z) in
+    subst (λ (x : Chart). SpareLinks (x .links)) (sym e) (record { few = u .few-links; none = row-past 48 noLink (linkAt (c .links)) (c .links .count) })
 
 -- the five stores that make an image
 pub chart-stored : (b : List ℕ) (c : Chart)

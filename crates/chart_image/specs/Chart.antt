@@ -1,6 +1,7 @@
 -- What C gets of pz_chart_read and pz_chart_write, and the image of a chart, 888 bytes (include/poztecameh.h): node count 1, link count 1, the question's two stations of 3,
 -- then 16 nodes of 28 (station 3, label length 1, label 24), then 48 links of 9 (two ends of 4, on 1).
-use Prim.Native.Nat.{ℕ, _+_, _*_, min}
+use Prim.Native.Nat.{ℕ, _+_, _*_, _≤_, min}
+use mathlib.Core.Path.{_≡_}
 use mathlib.Core.Bool.{cond}
 use mathlib.Core.List.{List, [], _∷_, _++_}
 use lib.Dec.{eqb, ltb}
@@ -11,6 +12,7 @@ use Rattle.lists.specs.Refusals.{refuse, orElse, unlessRefused}
 use Rattle.address.specs.Wide.{stationBytes, stationIn, addressIn}
 use Rattle.chart.specs.declared.ChartNode.{ChartNode}
 use Rattle.chart.specs.declared.Link.{Link}
+use Rattle.chart.specs.declared.Links.{Links}
 use Rattle.chart.specs.declared.Chart.{Chart}
 use Rattle.chart.specs.Values.{mostNodes, mostLinks, longestLabel, noNode, noLink, nodeAt, linkAt}
 use Rattle.chart_read.specs.Fields.{bytesFrom}
@@ -41,6 +43,11 @@ chartImage c =
     ++ (stationBytes (c .to)
     ++ (joined nodeImage (nodeAt (c .nodes)) mostNodes
     ++ joined linkBody (linkAt (c .links)) mostLinks)))
+
+-- the places past the count are unused: no link stands there, as in every chart that is read
+pub record SpareLinks (ls : Links) : Type 0 where
+  pub few : ls .count ≤ mostLinks
+  pub none : (k : ℕ) → linkAt ls (ls .count + k) ≡ noLink
 
 -- the chart's number first, then 10 for an image of m bytes that is too short
 unfoldable pub readNumberFor : List ℕ → ℕ → ℕ

@@ -1,7 +1,5 @@
 // The chart in an image.
-use address::Address;
 use address::Node;
-use address::Port;
 use address::Station;
 use chart::Chart;
 use chart::ChartNode;
@@ -79,7 +77,7 @@ fn link_held(b: &[u8], at: usize) -> Link
 {
     let on = lists::byte_at(b, at + 8);
     if 1 < on {
-        return no_link();
+        return chart::no_link();
     }
     let from = wide::address_in(b, at);
     let to = wide::address_in(b, at + 4);
@@ -90,27 +88,12 @@ fn link_held(b: &[u8], at: usize) -> Link
     }
 }
 
-fn no_link() -> Link
-    ensures { λ r. ⌜ r ≡ noLink ⌝ }
-{
-    let end = Address {
-        brigade: 0,
-        node: Node(0),
-        port: Port(0),
-    };
-    Link {
-        a: end,
-        b: end,
-        on: false,
-    }
-}
-
 // The first n links of an image, and no link at the other places.
 fn links_held(b: &[u8], n: usize) -> [Link; 48]
     requires { ⌜ n ≤ 48 ⌝ }
     ensures { λ r. ⌜ r ≡ row 48 noLink (linkHeld (now (b .entry))) n ⌝ }
 {
-    let none = no_link();
+    let none = chart::no_link();
     let mut items = [none; 48];
     let mut i: usize = 0;
     while i < n {

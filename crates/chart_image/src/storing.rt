@@ -10,7 +10,7 @@ ghost use lib.Seq.{sets};
 ghost use Rattle.lists.specs.Places.{joined};
 ghost use Rattle.chart.specs.Values.{nodeAt, linkAt};
 ghost use Rattle.chart_write.specs.Writing.{linkBody};
-ghost use Rattle.chart_image.specs.Chart.{nodeImage, chartImage};
+ghost use Rattle.chart_image.specs.Chart.{nodeImage, chartImage, SpareLinks};
 
 // A node's 28 bytes, stored from a place on.
 fn put_node(image: &mut [u8], at: usize, n: ChartNode)
@@ -47,12 +47,14 @@ fn link_image(l: Link) -> [u8; 9]
     [a[0], a[1], a[2], a[3], b[0], b[1], b[2], b[3], on]
 }
 
-// The bytes of all 48 places of links.
-fn put_links(image: &mut [u8], links: Links)
-    ensures { λ _. ⌜ now (image .exit) ≡ sets (now (image .entry)) 456 (joined linkBody (linkAt links) 48) ⌝ }
+// The bytes of the links.
+fn put_used(image: &mut [u8], links: Links)
+    requires { ⌜ links .count ≤ 48 ⌝ }
+    ensures { λ _. ⌜ now (image .exit) ≡ sets (now (image .entry)) 456 (joined linkBody (linkAt links) (links .count)) ⌝ }
 {
+    let n = links.count as usize;
     let mut i: usize = 0;
-    while i < 48 {
+    while i < n {
         let l = links.items[i];
         let b = link_image(l);
         lists::put_all(image, 456 + 9 * i, &b);
@@ -60,8 +62,21 @@ fn put_links(image: &mut [u8], links: Links)
     }
 }
 
+// The bytes of all 48 places of links: zeros past the count.
+fn put_links(image: &mut [u8], links: Links)
+    requires { ⌜ SpareLinks links ⌝ }
+    ensures { λ _. ⌜ now (image .exit) ≡ sets (now (image .entry)) 456 (joined linkBody (linkAt links) 48) ⌝ }
+{
+    put_used(image, links);
+    let used = 9 * (links.count as usize);
+    let spare = 432 - used;
+    let zeros = [0u8; 432];
+    lists::put_all(image, 456 + used, &zeros[..spare]);
+}
+
 // The whole image.
 pub fn put_chart(image: &mut [u8], c: Chart)
+    requires { ⌜ SpareLinks (c .links) ⌝ }
     ensures { λ _. ⌜ now (image .exit) ≡ sets (now (image .entry)) 0 (chartImage c) ⌝ }
 {
     let nodes = c.nodes;

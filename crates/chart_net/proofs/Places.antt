@@ -2,16 +2,19 @@
 use Prim.Native.Nat.{ℕ, _<_, _≤_}
 use mathlib.Core.Path.{_≡_, refl, sym, ap, _∙_}
 use mathlib.Core.Bool.{true, false}
+use mathlib.Core.List.{List}
 use native.Mathlib.Omega.{arith}
 use borrow.Author.Tests.{eqb-true, eq-eqb, lt-ltb, le-ltb}
 use lib.Dec.{eqb}
 use Rattle.lists.specs.Places.{anyBelow, firstBelow}
 use Rattle.lists.proofs.Bools.{and-left, and-right, both-same}
-use Rattle.lists.proofs.Places.{first-stop, first-found, first-none, first-below}
+use Rattle.lists.proofs.Places.{any-agree, first-stop, first-found, first-none, first-below}
 use Rattle.address.specs.declared.Station.{Station}
 use Rattle.address.specs.Address.{sameStation}
 use Rattle.chart.specs.declared.Nodes.{Nodes}
 use Rattle.chart.specs.Values.{nodeAt, standsAt, written}
+use Rattle.chart_keys.specs.Keys.{StationKeyed, KeysOf, keyIs}
+use Rattle.chart_keys.proofs.ByKeys.{keyed-of, stands-keyed}
 use Rattle.chart_write.specs.Numbers.{nodesBefore}
 use Rattle.chart_net.specs.Net.{stationAt, placeIn}
 use Rattle.chart_net.specs.Arrays.{placeFor}
@@ -48,6 +51,20 @@ module _ (ns : Nodes) (s : Station) where
   place-none i e n =
       let m : anyBelow (standsAt ns s) (ns .count) ≡ false = ap (anyBelow (standsAt ns s)) (sym e) ∙ n in
       e ∙ sym (first-none (standsAt ns s) (ns .count) m)
+
+  -- the same of the keys
+  module _ (keys : List ℕ) (f : ns .count ≤ 16) (h : KeysOf ns keys) (k : ℕ) (e : StationKeyed s k) where
+    stands-key : (i : ℕ) → i < ns .count → keyIs keys k i ≡ standsAt ns s i
+    stands-key i l = ap (λ (x : ℕ). keyIs keys x i) (e .key) ∙ stands-keyed ns keys (keyed-of ns keys f h) s (e .node) i l
+
+    none-key : (i : ℕ) → i ≤ ns .count → anyBelow (keyIs keys k) i ≡ false → anyBelow (standsAt ns s) i ≡ false
+    none-key i l n = sym (any-agree (keyIs keys k) (standsAt ns s) i (λ j m. stands-key j (omega arith))) ∙ n
+
+    pub key-here : (i : ℕ) → i < ns .count → anyBelow (keyIs keys k) i ≡ false → keyIs keys k i ≡ true → i ≡ placeIn ns s
+    key-here i l n q = place-here i l (none-key i (omega arith) n) (sym (stands-key i l) ∙ q)
+
+    pub key-none : (i : ℕ) → i ≡ ns .count → anyBelow (keyIs keys k) i ≡ false → i ≡ placeIn ns s
+    key-none i q n = place-none i q (none-key i (omega arith) n)
 
   -- a station that is written has a place among the nodes
   pub place-written : written ns s ≡ true → placeIn ns s < ns .count

@@ -1,7 +1,6 @@
 // What the trace keeps of a chart by value (document 01, "Routes and their order"): the two ends of each link as node places, the way each link is
 // passed, and the places that the question names. Nodes are found by brigade and node number.
 use address::Station;
-use address::same_station;
 use address::station_of;
 use chart::Link;
 use chart::Links;
@@ -10,20 +9,19 @@ use chart::MOST_NODES;
 use chart::Nodes;
 ghost use mathlib.Core.Path.{_≡_};
 ghost use Prim.Native.Nat.{_≤_};
+ghost use Rattle.chart_keys.specs.Keys.{KeysOf};
 ghost use Rattle.chart_net.specs.Net.{placeIn};
 ghost use Rattle.chart_net.specs.Arrays.{placeFor, endPlaces, wayOf, endsFor, waysFor};
 
-// The place of the node at a station among at most 16 nodes, or their count where there is none.
-fn find_node(nodes: Nodes, s: Station) -> u8
-    requires { ⌜ nodes .count ≤ 16 ⌝ }
+// The place of the node at a station among at most 16 nodes with these keys, or their count where there is none.
+fn find_node(nodes: Nodes, keys: &[u32; 16], s: Station) -> u8
+    requires { ⌜ (nodes .count ≤ 16) × KeysOf nodes (now keys) ⌝ }
     ensures { λ r. ⌜ r ≡ placeIn nodes s ⌝ }
 {
-    let n = nodes.count as usize;
+    let k = chart_keys::station_key(s);
     let mut i: usize = 0;
-    while i < n {
-        let e = nodes.items[i];
-        let t = e.station;
-        if same_station(t, s) {
+    while i < nodes.count as usize {
+        if keys[i] == k {
             return i as u8;
         }
         i += 1;
@@ -31,24 +29,34 @@ fn find_node(nodes: Nodes, s: Station) -> u8
     i as u8
 }
 
-// The place of the node at a station, or the count of the nodes where there is none; 16 where the nodes are too many.
-pub fn place_of(nodes: Nodes, s: Station) -> u8
+// The same of any nodes; 16 where they are too many.
+fn place_by(nodes: Nodes, keys: &[u32; 16], s: Station) -> u8
+    requires { ⌜ KeysOf nodes (now keys) ⌝ }
     ensures { λ r. ⌜ r ≡ placeFor nodes s ⌝ }
 {
     if MOST_NODES < nodes.count {
         return MOST_NODES;
     }
-    find_node(nodes, s)
+    find_node(nodes, keys, s)
+}
+
+// The place of the node at a station, or the count of the nodes where there is none; 16 where the nodes are too many.
+pub fn place_of(nodes: Nodes, s: Station) -> u8
+    ensures { λ r. ⌜ r ≡ placeFor nodes s ⌝ }
+{
+    let keys = chart_keys::station_keys(nodes);
+    place_by(nodes, &keys, s)
 }
 
 // The two ends of a link, as node places.
-fn link_ends(nodes: Nodes, l: Link) -> [u8; 2]
+fn link_ends(nodes: Nodes, keys: &[u32; 16], l: Link) -> [u8; 2]
+    requires { ⌜ KeysOf nodes (now keys) ⌝ }
     ensures { λ r. ⌜ r ≡ endPlaces nodes l ⌝ }
 {
     let a = l.a;
     let b = l.b;
-    let p = place_of(nodes, station_of(a));
-    let q = place_of(nodes, station_of(b));
+    let p = place_by(nodes, keys, station_of(a));
+    let q = place_by(nodes, keys, station_of(b));
     [p, q]
 }
 
@@ -60,11 +68,12 @@ pub fn ends_of(nodes: Nodes, links: Links) -> [[u8; 2]; 48]
     if MOST_LINKS < links.count {
         return ends;
     }
+    let keys = chart_keys::station_keys(nodes);
     let n = links.count as usize;
     let mut i: usize = 0;
     while i < n {
         let l = links.items[i];
-        let e = link_ends(nodes, l);
+        let e = link_ends(nodes, &keys, l);
         ends[i] = e;
         i += 1;
     }

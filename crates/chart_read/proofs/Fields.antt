@@ -11,7 +11,7 @@ use lib.Seq.{getD-append-add, getD-append-seam, drop-append-add, take-append-sea
 use lib.Dec.{ltb}
 use borrow.Author.Tests.{ltb-false, ltb-true}
 use Rattle.lists.specs.Bytes.{Bytes, wordAt, wordBytes}
-use Rattle.chart_read.specs.declared.SoFar.{SoFar}
+use Rattle.chart_read.specs.Held.{SoFar}
 use Rattle.chart_read.specs.Fields.{tagged, tagAt, bodyAt, pastField}
 use Rattle.chart_read.specs.Reading.{bodyTaken, stepTo, stepOf}
 use Rattle.chart_read.proofs.Laws.{step-whole}

@@ -8,9 +8,10 @@ use lib.ListN.{length, getD, take, drop}
 use borrow.Author.Tests.{lt-ltb, le-ltb}
 use Rattle.lists.specs.Bytes.{wordAt}
 use Rattle.lists.proofs.Refusals.{refused, taken}
-use Rattle.chart_read.specs.declared.SoFar.{SoFar}
-use Rattle.chart_read.specs.declared.Taken.{Taken}
+use Rattle.lists.proofs.Chains.{stops, passes}
+use Rattle.chart_read.specs.Held.{SoFar, Taken}
 use Rattle.chart_read.specs.Fields.{tagAt, bodyAt, pastField}
+use Rattle.chart_read.specs.ByKeys.{bodyBy, fieldBy}
 use Rattle.chart_read.specs.Reading.{nothing, taking, bodyTaken, stepTo, stepOf}
 
 -- ---- a number with what is then held
@@ -43,11 +44,21 @@ module _ (s : SoFar) (bytes : List ℕ) (at : ℕ) where
   unfolding stepOf
   step-whole h = tag-later _ (le-ltb (length bytes) (pastField bytes at) h) refl
 
-  -- as the code has the body: from its first byte to the next field
-  pub step-made : (n : ℕ) (t : Taken) → n ≡ wordAt bytes (at + 1) → at + 3 + n ≤ length bytes
-      → t ≡ bodyTaken s (getD bytes at 0) (take (at + 3 + n - (at + 3)) (drop (at + 3) bytes))
-      → record { number = t .number; next = at + 3 + n; «so_far» = t .«so_far» } ≡ stepOf s bytes at
-  step-made n t e h f =
-      let k : at + 3 + n - (at + 3) ≡ wordAt bytes (at + 1) = omega arith in
-      let p : at + 3 + n ≡ pastField bytes at = omega arith in
-      ap₂ stepTo p (f ∙ ap (λ (j : ℕ). bodyTaken s (getD bytes at 0) (take j (drop (at + 3) bytes))) k) ∙ step-whole (omega arith)
+-- the body as the code has it: from its first byte to the next field
+pub body-made : (bytes : List ℕ) (at w : ℕ) → w ≡ wordAt bytes (at + 1) → take (at + 3 + w - (at + 3)) (drop (at + 3) bytes) ≡ bodyAt bytes at
+body-made bytes at w e =
+    let k : at + 3 + w - (at + 3) ≡ wordAt bytes (at + 1) = omega arith in
+    ap (λ (j : ℕ). take j (drop (at + 3) bytes)) k
+
+-- ---- its number by keys
+
+module _ (asked : Bool) (keys : List ℕ) (n : ℕ) (near far : List ℕ) (m : ℕ) (bytes : List ℕ) (at : ℕ) where
+  pub field-cut : length bytes < pastField bytes at → 21 ≡ fieldBy asked keys n near far m bytes at
+  unfolding fieldBy
+  field-cut h = stops 21 _ (lt-ltb (length bytes) (pastField bytes at) h)
+
+  pub field-whole : (w k : ℕ) → w ≡ wordAt bytes (at + 1) → at + 3 + w ≤ length bytes
+      → k ≡ bodyBy asked keys n near far m (getD bytes at 0) (take (at + 3 + w - (at + 3)) (drop (at + 3) bytes)) → k ≡ fieldBy asked keys n near far m bytes at
+  unfolding fieldBy
+  field-whole w k e h f =
+      passes 21 (le-ltb (length bytes) (pastField bytes at) (omega arith)) (f ∙ ap (bodyBy asked keys n near far m (getD bytes at 0)) (body-made bytes at w e))

@@ -1,3 +1,5 @@
 pub mod Laws
 pub mod Walking
 pub mod Fields
+pub mod Keyed
+pub mod Holding

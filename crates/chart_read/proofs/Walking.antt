@@ -6,8 +6,7 @@ use mathlib.Core.Bool.{Bool, true, false, cond}
 use native.Mathlib.Omega.{arith}
 use lib.ListN.{length}
 use borrow.Author.Tests.{lt-leb, le-leb}
-use Rattle.chart_read.specs.declared.SoFar.{SoFar}
-use Rattle.chart_read.specs.declared.Step.{Step}
+use Rattle.chart_read.specs.Held.{SoFar, Step}
 use Rattle.chart_read.specs.declared.ChartRead.{ChartRead}
 use Rattle.chart_read.specs.Fields.{cutShort}
 use Rattle.chart_read.specs.Reading.{nothing, stepOf, refusedAt, atEnd, onward, walk, chartReadOf}

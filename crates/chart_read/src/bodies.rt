@@ -1,41 +1,11 @@
 // What a body of each tag says.
-use address::Address;
-use address::Node;
-use address::Port;
-use address::Station;
 use chart::ChartNode;
 use chart::Link;
 ghost use mathlib.Core.Path.{_≡_};
-ghost use Prim.Native.Nat.{_+_, _-_, _≤_};
+ghost use Prim.Native.Nat.{_+_, _≤_};
 ghost use lib.ListN.{length};
 ghost use Rattle.lists.specs.Places.{row};
-ghost use Rattle.address.specs.Wide.{stationIn, addressIn};
 ghost use Rattle.chart_read.specs.Fields.{bytesFrom, nodeIn, linkIn};
-
-// The station whose three bytes begin at a place.
-pub fn station_in(b: &[u8], at: usize) -> Station
-    requires { ⌜ at + 3 ≤ length (now b) ⌝ }
-    ensures { λ r. ⌜ r ≡ stationIn (now (b .entry)) at ⌝ }
-{
-    let n = lists::word_at(b, at + 1);
-    Station {
-        brigade: b[at],
-        node: Node(n),
-    }
-}
-
-// The address whose four bytes begin at a place.
-fn address_in(b: &[u8], at: usize) -> Address
-    requires { ⌜ at + 4 ≤ length (now b) ⌝ }
-    ensures { λ r. ⌜ r ≡ addressIn (now (b .entry)) at ⌝ }
-{
-    let n = lists::word_at(b, at + 1);
-    Address {
-        brigade: b[at],
-        node: Node(n),
-        port: Port(b[at + 3]),
-    }
-}
 
 // The label: n bytes after the station, and zeros after them.
 fn label_in(b: &[u8], n: usize) -> [u8; 24]
@@ -56,7 +26,7 @@ pub fn node_in(b: &[u8]) -> ChartNode
     requires { ⌜ (3 ≤ length (now b)) × (length (now b) ≤ 27) ⌝ }
     ensures { λ r. ⌜ r ≡ nodeIn (now (b .entry)) ⌝ }
 {
-    let s = station_in(b, 0);
+    let s = wide::station_in(b, 0);
     let n = b.len() - 3;
     let label = label_in(b, n);
     ChartNode {
@@ -71,8 +41,8 @@ pub fn link_in(b: &[u8]) -> Link
     requires { ⌜ length (now b) ≡ 9 ⌝ }
     ensures { λ r. ⌜ r ≡ linkIn (now (b .entry)) ⌝ }
 {
-    let p = address_in(b, 0);
-    let q = address_in(b, 4);
+    let p = wide::address_in(b, 0);
+    let q = wide::address_in(b, 4);
     let on = b[8] == 1;
     Link { a: p, b: q, on: on }
 }

@@ -15,9 +15,7 @@ use Rattle.chart.specs.declared.Links.{Links}
 use Rattle.chart.specs.declared.Chart.{Chart}
 use Rattle.chart.specs.Values.{nodeAt, linkAt, nodeInRange, linkInRange, written}
 use Rattle.chart.specs.Numbers.{bothWritten, eitherUsed, nodeNumber, linkNumber, questionNumber}
-use Rattle.chart_read.specs.declared.SoFar.{SoFar}
-use Rattle.chart_read.specs.declared.Taken.{Taken}
-use Rattle.chart_read.specs.declared.Step.{Step}
+use Rattle.chart_read.specs.Held.{SoFar, Taken, Step}
 use Rattle.chart_read.specs.declared.ChartRead.{ChartRead}
 use Rattle.chart_read.specs.Fields.{tagAt, bodyAt, pastField, cutShort, nodeIn, linkIn}
 use Rattle.chart_read.specs.Reading.{nothing, withNode, withLink, withQuestion, nodeLate, nodeBodyNumber, linkBodyNumber, questionBodyNumber, taking, bodyTaken, stepTo, stepOf, refusedAt, atEnd, onward, walk, chartReadOf}

@@ -22,8 +22,7 @@ use Rattle.address.specs.Wide.{stationBytes, stationIn}
 use Rattle.chart.specs.declared.ChartNode.{ChartNode}
 use Rattle.chart.specs.declared.Link.{Link}
 use Rattle.chart.specs.Numbers.{nodeNumber, linkNumber, questionNumber}
-use Rattle.chart_read.specs.declared.SoFar.{SoFar}
-use Rattle.chart_read.specs.declared.Step.{Step}
+use Rattle.chart_read.specs.Held.{SoFar, Step}
 use Rattle.chart_read.specs.Fields.{tagged, bytesFrom, nodeIn, linkIn}
 use Rattle.chart_read.specs.Reading.{nothing, nodeLate, nodeBodyNumber, linkBodyNumber, questionBodyNumber, taking, bodyTaken, stepTo, stepOf, refusedAt, chartReadOf}
 use Rattle.chart_read.proofs.Fields.{step-there, begins-there, past-there}

@@ -17,7 +17,7 @@ use Rattle.chart.specs.declared.Links.{Links}
 use Rattle.chart.specs.declared.Chart.{Chart}
 use Rattle.chart.specs.Values.{noStation, noNode, noLink, noChart, nodeAt, linkAt}
 use Rattle.chart.specs.Numbers.{questionNumber}
-use Rattle.chart_read.specs.declared.SoFar.{SoFar}
+use Rattle.chart_read.specs.Held.{SoFar}
 use Rattle.chart_read.specs.declared.ChartRead.{ChartRead}
 use Rattle.chart_read.specs.Reading.{nothing, withNode, withLink, withQuestion, nodeLate, nodeBodyNumber, linkBodyNumber, questionBodyNumber, taking, bodyTaken, refusedAt, chartReadOf}
 use Rattle.chart_read.proofs.Walking.{Reaches, reach-start, reach-end}

@@ -23,9 +23,7 @@ use Rattle.chart.specs.declared.Chart.{Chart}
 use Rattle.chart.specs.Values.{noChart, noNode, noLink, nodeAt, linkAt}
 use Rattle.chart.specs.Numbers.{nodeNumber, linkNumber, questionNumber}
 use Rattle.chart.proofs.Laws.{node-passed, link-passed, question-passed}
-use Rattle.chart_read.specs.declared.SoFar.{SoFar}
-use Rattle.chart_read.specs.declared.Taken.{Taken}
-use Rattle.chart_read.specs.declared.Step.{Step}
+use Rattle.chart_read.specs.Held.{SoFar, Taken, Step}
 use Rattle.chart_read.specs.declared.ChartRead.{ChartRead}
 use Rattle.chart_read.specs.Fields.{tagged, tagAt, bodyAt, pastField, cutShort, bytesFrom, nodeIn, linkIn}
 use Rattle.chart_read.specs.Reading.{nothing, withNode, withLink, withQuestion, nodeLate, nodeBodyNumber, linkBodyNumber, questionBodyNumber, taking, bodyTaken, stepTo, stepOf, refusedAt, atEnd, onward, walk, chartReadOf}

@@ -1,46 +1,58 @@
-// The number of a chart given as values.
+// The number of a chart given as values. Nodes and ends are compared by their keys.
 use chart::Chart;
 use chart::Links;
 use chart::MOST_LINKS;
 use chart::MOST_NODES;
 use chart::Nodes;
+use chart_keys::end_key;
 ghost use mathlib.Core.Path.{_≡_};
 ghost use Prim.Native.Nat.{_≤_};
 ghost use Rattle.lists.specs.Chains.{firstNumber};
-ghost use Rattle.chart_write.specs.Numbers.{nodesBefore, linksBefore, nodeNumberAt, linkNumberAt, chartNumber};
+ghost use Rattle.chart_keys.specs.Keys.{KeyedNodes, NearKeys, FarKeys, KeyedLinks};
+ghost use Rattle.chart_write.specs.Numbers.{nodeNumberAt, linkNumberAt, chartNumber};
 
-// The nodes before a place.
-fn nodes_before(nodes: Nodes, n: u8) -> Nodes
-    ensures { λ r. ⌜ r ≡ nodesBefore nodes n ⌝ }
+// The keys of the links' first ends.
+fn near_keys(links: Links) -> [u32; 48]
+    requires { ⌜ links .count ≤ 48 ⌝ }
+    ensures { λ r. ⌜ NearKeys links r ⌝ }
 {
-    let items = nodes.items;
-    Nodes {
-        count: n,
-        items: items,
+    let mut keys = [0u32; 48];
+    let n = links.count as usize;
+    let mut i: usize = 0;
+    while i < n {
+        let l = links.items[i];
+        keys[i] = end_key(l.a);
+        i += 1;
     }
+    keys
 }
 
-// The links before a place.
-fn links_before(links: Links, n: u8) -> Links
-    ensures { λ r. ⌜ r ≡ linksBefore links n ⌝ }
+// The keys of their second ends.
+fn far_keys(links: Links) -> [u32; 48]
+    requires { ⌜ links .count ≤ 48 ⌝ }
+    ensures { λ r. ⌜ FarKeys links r ⌝ }
 {
-    let items = links.items;
-    Links {
-        count: n,
-        items: items,
+    let mut keys = [0u32; 48];
+    let n = links.count as usize;
+    let mut i: usize = 0;
+    while i < n {
+        let l = links.items[i];
+        keys[i] = end_key(l.b);
+        i += 1;
     }
+    keys
 }
 
 // The number of the first bad node, or 0.
-fn nodes_number(nodes: Nodes) -> u8
-    requires { ⌜ nodes .count ≤ 16 ⌝ }
+fn nodes_number(nodes: Nodes, keys: &[u32; 16]) -> u8
+    requires { ⌜ (nodes .count ≤ 16) × KeyedNodes nodes (now keys) ⌝ }
     ensures { λ r. ⌜ r ≡ firstNumber (nodeNumberAt nodes) (nodes .count) ⌝ }
 {
+    let n = nodes.count as usize;
     let mut i: usize = 0;
-    while i < nodes.count as usize {
-        let before = nodes_before(nodes, i as u8);
-        let n = nodes.items[i];
-        let k = chart::node_number(false, before, n);
+    while i < n {
+        let node = nodes.items[i];
+        let k = chart_keys::node_number(false, keys, i, node);
         if k != 0 {
             return k;
         }
@@ -50,15 +62,21 @@ fn nodes_number(nodes: Nodes) -> u8
 }
 
 // The number of the first bad link, or 0.
-fn links_number(nodes: Nodes, links: Links) -> u8
-    requires { ⌜ links .count ≤ 48 ⌝ }
+fn links_number(
+    nodes: Nodes,
+    keys: &[u32; 16],
+    links: Links,
+    near: &[u32; 48],
+    far: &[u32; 48],
+) -> u8
+    requires { ⌜ (links .count ≤ 48) × KeyedNodes nodes (now keys) × KeyedLinks links (now near) (now far) ⌝ }
     ensures { λ r. ⌜ r ≡ firstNumber (linkNumberAt nodes links) (links .count) ⌝ }
 {
+    let m = links.count as usize;
     let mut i: usize = 0;
-    while i < links.count as usize {
-        let before = links_before(links, i as u8);
+    while i < m {
         let l = links.items[i];
-        let k = chart::link_number(false, nodes, before, l);
+        let k = chart_keys::link_number(false, keys, nodes.count as usize, near, far, i, l);
         if k != 0 {
             return k;
         }
@@ -79,13 +97,16 @@ pub fn chart_number(c: Chart) -> u8
     if MOST_LINKS < links.count {
         return 26;
     }
-    let k = nodes_number(nodes);
+    let keys = chart_keys::station_keys(nodes);
+    let k = nodes_number(nodes, &keys);
     if k != 0 {
         return k;
     }
-    let k = links_number(nodes, links);
+    let near = near_keys(links);
+    let far = far_keys(links);
+    let k = links_number(nodes, &keys, links, &near, &far);
     if k != 0 {
         return k;
     }
-    chart::question_number(false, nodes, c.from, c.to)
+    chart_keys::question_number(false, &keys, nodes.count as usize, c.from, c.to)
 }

@@ -12,7 +12,7 @@ use Rattle.chart_net.specs.Net.{start, routesOf}
 use Rattle.chart_net.specs.Arrays.{placeFor, endsFor, waysFor, routesKept}
 use Rattle.chart_net.proofs.Places.{place-few}
 use Rattle.chart_net.proofs.Promises.{routes-kept, accepted-ends}
-use Rattle.trace.specs.Trace.{firstRefusalOf, nextRefusalOf, traceFirst, traceNext}
+use Rattle.trace.specs.Trace.{firstRefusalOf, nextRefusalOf, traceFirst, traceNext, keptFirst, keptNext}
 
 module _ (c : Chart) where
   -- what first and next promise of an answer and the bytes after it
@@ -58,12 +58,10 @@ module _ (c : Chart) where
     unfolding routesKept
     kept = routes-kept c yes
 
-    pub first-kept : (buf : List ℕ)
-        → firstIn (endsFor (c .nodes) (c .links)) (waysFor (c .links)) (c .links .count) (placeFor (c .nodes) (c .from)) (placeFor (c .nodes) (c .to)) buf ≡ traceFirst c buf
-    unfolding firstIn firstRefusalIn traceFirst firstRefusalOf
+    pub first-kept : (buf : List ℕ) → keptFirst c buf ≡ traceFirst c buf
+    unfolding keptFirst firstIn firstRefusalIn traceFirst firstRefusalOf
     first-kept buf = rw (places-kept, ok, kept)
 
-    pub next-kept : (buf : List ℕ) (n : ℕ)
-        → nextIn (endsFor (c .nodes) (c .links)) (waysFor (c .links)) (c .links .count) (placeFor (c .nodes) (c .from)) (placeFor (c .nodes) (c .to)) buf n ≡ traceNext c buf n
-    unfolding nextIn nextRefusalIn traceNext nextRefusalOf
+    pub next-kept : (buf : List ℕ) (n : ℕ) → keptNext c buf n ≡ traceNext c buf n
+    unfolding keptNext nextIn nextRefusalIn traceNext nextRefusalOf
     next-kept buf n = rw (places-kept, ok, kept)

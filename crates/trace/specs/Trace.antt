@@ -4,8 +4,9 @@ use mathlib.Core.List.{List}
 use Rattle.lists.specs.Refusals.{orElse}
 use Rattle.chart.specs.declared.Chart.{Chart}
 use Rattle.chart_write.specs.Numbers.{chartNumber}
-use Rattle.search.specs.Answers.{Told, told, firstRefusal, nextRefusal, firstRoute, nextRoute}
+use Rattle.search.specs.Answers.{Told, told, firstIn, nextIn, firstRefusal, nextRefusal, firstRoute, nextRoute}
 use Rattle.chart_net.specs.Net.{routesOf}
+use Rattle.chart_net.specs.Arrays.{placeFor, endsFor, waysFor}
 
 -- the chart's number, as the chart writer gives it; then 42 and 43
 unfoldable pub firstRefusalOf : Chart → List ℕ → ℕ
@@ -22,3 +23,10 @@ traceFirst c buf = told (firstRefusalOf c buf) (firstRoute (routesOf c)) buf
 -- next: the one after the route of n links in the buffer
 unfoldable pub traceNext : Chart → List ℕ → ℕ → Told
 traceNext c buf n = told (nextRefusalOf c buf n) (nextRoute (routesOf c) buf n) buf
+
+-- first and next over what is kept of a chart, whether the chart is right or not
+unfoldable pub keptFirst : Chart → List ℕ → Told
+keptFirst c buf = firstIn (endsFor (c .nodes) (c .links)) (waysFor (c .links)) (c .links .count) (placeFor (c .nodes) (c .from)) (placeFor (c .nodes) (c .to)) buf
+
+unfoldable pub keptNext : Chart → List ℕ → ℕ → Told
+keptNext c buf n = nextIn (endsFor (c .nodes) (c .links)) (waysFor (c .links)) (c .links .count) (placeFor (c .nodes) (c .from)) (placeFor (c .nodes) (c .to)) buf n

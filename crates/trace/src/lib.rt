@@ -12,7 +12,35 @@ ghost use lib.ListN.{length};
 ghost use Rattle.lists.specs.Refusals.{unlessRefused};
 ghost use Rattle.search.specs.Answers.{tracedNumber, tracedLength, firstRoute, nextRoute};
 ghost use Rattle.chart_net.specs.Net.{routesOf};
-ghost use Rattle.trace.specs.Trace.{firstRefusalOf, nextRefusalOf, traceFirst, traceNext};
+ghost use Rattle.trace.specs.Trace.{firstRefusalOf, nextRefusalOf, traceFirst, traceNext, keptFirst, keptNext};
+
+// The least route over what is kept of a chart, which is not tested: the trace of one that is known to be right.
+pub fn first_kept(c: Chart, buf: &mut [u8]) -> Traced
+    ensures { λ t. ⌜ t ≡ keptFirst c (now (buf .entry)) .answer ⌝ }
+    ensures bytes { λ _. ⌜ now (buf .exit) ≡ keptFirst c (now (buf .entry)) .bytes ⌝ }
+{
+    let nodes = c.nodes;
+    let links = c.links;
+    let ends = ends_of(nodes, links);
+    let ways = ways_of(links);
+    let from = place_of(nodes, c.from);
+    let to = place_of(nodes, c.to);
+    first_route(ends, ways, links.count as usize, from, to, buf)
+}
+
+// The least one after the route in the first `given` bytes of the buffer, likewise.
+pub fn next_kept(c: Chart, buf: &mut [u8], given: usize) -> Traced
+    ensures { λ t. ⌜ t ≡ keptNext c (now (buf .entry)) given .answer ⌝ }
+    ensures bytes { λ _. ⌜ now (buf .exit) ≡ keptNext c (now (buf .entry)) given .bytes ⌝ }
+{
+    let nodes = c.nodes;
+    let links = c.links;
+    let ends = ends_of(nodes, links);
+    let ways = ways_of(links);
+    let from = place_of(nodes, c.from);
+    let to = place_of(nodes, c.to);
+    next_route(ends, ways, links.count as usize, from, to, buf, given)
+}
 
 // The least route, written into the buffer; or a refusal, which changes nothing.
 pub fn first(c: Chart, buf: &mut [u8]) -> Traced
@@ -25,13 +53,7 @@ pub fn first(c: Chart, buf: &mut [u8]) -> Traced
     if number != 0 {
         return Traced::Refused(number);
     }
-    let nodes = c.nodes;
-    let links = c.links;
-    let ends = ends_of(nodes, links);
-    let ways = ways_of(links);
-    let from = place_of(nodes, c.from);
-    let to = place_of(nodes, c.to);
-    first_route(ends, ways, links.count as usize, from, to, buf)
+    first_kept(c, buf)
 }
 
 // The least route after the one in the first `given` bytes of the buffer, written over it; or a refusal, which changes nothing.
@@ -45,11 +67,5 @@ pub fn next(c: Chart, buf: &mut [u8], given: usize) -> Traced
     if number != 0 {
         return Traced::Refused(number);
     }
-    let nodes = c.nodes;
-    let links = c.links;
-    let ends = ends_of(nodes, links);
-    let ways = ways_of(links);
-    let from = place_of(nodes, c.from);
-    let to = place_of(nodes, c.to);
-    next_route(ends, ways, links.count as usize, from, to, buf, given)
+    next_kept(c, buf, given)
 }

@@ -1,6 +1,8 @@
 -- `chart_image::read_into` meets its contract: the chart's number leaves the image; else its bytes are stored.
-use Rattle.chart_image.proofs.Laws.{near, read-refused, read-short, read-done}
-use mathlib.Core.Path.{_≡_, sym, ap, refl, _∙_}
+use Rattle.chart_image.proofs.Laws.{read-spare, near, read-refused, read-short, read-done}
+use mathlib.Core.Path.{_≡_, sym, ap, refl, subst, _∙_}
+use Rattle.chart_read.specs.declared.ChartRead.{ChartRead}
+use Rattle.chart_image.specs.Chart.{SpareLinks}
 use native.Mathlib.Omega.{arith}
 use borrow.Author.Needs.{needs}
 use Rattle.chart_image.proofs.read_into.Statement.{statement}
@@ -21,7 +23,10 @@ returns-2 : tie.Need-returns-2
 returns-2 c = read-short (c .before .before .before .before .before .before .args .chart .now) (c .before .before .before .before .before .before .args .image .now) (c .before .before .before .read-chart .ensures) (c .before .if1 .left) (c .if2 .taken)
 
 put-chart-requires : tie.Need-put-chart-requires
-put-chart-requires c κs = search needs
+put-chart-requires c κs =
+    let e = c .before .before .before .before .before .read-chart .ensures in
+    subst (λ (r : ChartRead). SpareLinks (r .chart .links)) (sym e)
+    (read-spare (c .before .before .before .before .before .before .before .before .args .chart .now) (λ i. c .before .before .before .before .before .before .before .shared-slice-known .given i .fits) (sym (ap (λ (r : ChartRead). r .number) e) ∙ c .before .before .before .if1 .left))
 
 same-length : tie.Need-same-length
 same-length c = search needs

@@ -1,52 +1,48 @@
--- `chart_net::find_node` meets its contract. The loop's invariant: no node before i stands at the station.
+-- `chart_net::find_node` meets its contract. The loop's invariant: no node before i has the key.
 use Prim.Native.Nat.{_≤_, _-_}
 use mathlib.Core.Path.{_≡_, sym, _∙_}
 use mathlib.Core.Bool.{false}
-use lib.ListN.{length, length-map}
+use native.Mathlib.Omega.{arith}
+use borrow.Author.Needs.{needs}
+use borrow.Author.Tests.{eq-eqb, ne-eqb}
 use Rattle.lists.specs.Places.{anyBelow}
 use Rattle.lists.proofs.Places.{any-none, any-more}
-use Rattle.chart.specs.Values.{standsAt}
-use Rattle.chart.proofs.Laws.{stands-read}
-use Rattle.chart_net.proofs.Places.{place-here, place-none}
-use borrow.Author.Needs.{needs}
-use native.Mathlib.Omega.{arith}
+use Rattle.chart_keys.specs.Keys.{keyIs}
+use Rattle.chart_net.proofs.Places.{key-here, key-none}
 use Rattle.chart_net.proofs.find_node.Statement.{statement}
 use Rattle.chart_net.proofs.find_node.Tie as tie
 
 abbrev Inv-loop : tie.InvT-loop
-Inv-loop s nodes n i₀ i = (i ≤ n) × (anyBelow (standsAt nodes s) i ≡ false)
+Inv-loop nodes keys k i₀ i = (i ≤ nodes .count) × (anyBelow (keyIs keys k) i ≡ false)
 
 abbrev μ-loop : tie.MeasureT-loop
-μ-loop s nodes n i₀ i = n - i
+μ-loop nodes keys k i₀ i = nodes .count - i
 
--- the array has 16 places
-whole : (s : tie.Start Inv-loop μ-loop) → length (s .args .t1 .items) ≡ 16
-whole s = simp length-map at (s .good .0 .1 .1 .1 .0 .1 .0 .1)
-
-cast-n : tie.Need-cast-n Inv-loop μ-loop
-cast-n c = search needs
+station-key-requires : tie.Need-station-key-requires Inv-loop μ-loop
+station-key-requires c κs = search needs
 
 loop-holds : tie.Need-loop-holds Inv-loop μ-loop
 loop-holds c = (omega arith, any-none _)
 
-mul-e : tie.Need-mul-e Inv-loop μ-loop
-mul-e c = search needs
+cast-if1 : tie.Need-cast-if1 Inv-loop μ-loop
+cast-if1 c = search needs
 
-element-copy-out-e : tie.Need-element-copy-out-e Inv-loop μ-loop
-element-copy-out-e c = search needs
+mul-if2 : tie.Need-mul-if2 Inv-loop μ-loop
+mul-if2 c = search needs
 
-same-station-requires : tie.Need-same-station-requires Inv-loop μ-loop
-same-station-requires c κs = search needs
+element-copy-out-if2 : tie.Need-element-copy-out-if2 Inv-loop μ-loop
+element-copy-out-if2 c = search needs
 
 cast-result : tie.Need-cast-result Inv-loop μ-loop
 cast-result c = search needs
 
 returns : tie.Need-returns Inv-loop μ-loop
+unfolding keyIs
 returns c =
     let s = c .before .before .before .before .before .before in
-    let l = c .before .before .before .before .before .loop in
-    place-here (s .args .t1) (s .args .s) (l .i) (omega arith) (l .inv .1)
-    (stands-read (s .args .t1) (s .args .s) _ (l .i) (omega (arith, whole s)) ∙ sym (c .before .same-station .ensures) ∙ c .if1 .taken)
+    let l = c .before .before .before .before .loop in
+    let k = c .before .before .before .before .before .station-key in
+    key-here (s .args .nodes) (s .args .s) (s .args .keys .now) (s .pre .0) (s .pre .1) (k .result) (k .ensures) (l .i) (omega arith) (l .inv .1) (eq-eqb _ _ (c .if2 .taken))
 
 add-i : tie.Need-add-i Inv-loop μ-loop
 add-i c = search needs
@@ -55,20 +51,20 @@ loop-less : tie.Need-loop-less Inv-loop μ-loop
 loop-less c = search needs
 
 loop-again : tie.Need-loop-again Inv-loop μ-loop
+unfolding keyIs
 loop-again c =
-    let s = c .before .before .before .before .before .before in
-    let l = c .before .before .before .before .before .loop in (
-      omega arith,
-      any-more _ (l .i) (l .inv .1) (stands-read (s .args .t1) (s .args .s) _ (l .i) (omega (arith, whole s)) ∙ sym (c .before .same-station .ensures) ∙ c .if1 .left),
-    )
+    let l = c .before .before .before .before .loop in
+    (omega arith, any-more _ (l .i) (l .inv .1) (ne-eqb _ _ (c .if2 .left)))
 
 cast-result-2 : tie.Need-cast-result-2 Inv-loop μ-loop
 cast-result-2 c = search needs
 
 returns-2 : tie.Need-returns-2 Inv-loop μ-loop
 returns-2 c =
-    let s = c .before .before in
-    place-none (s .args .t1) (s .args .s) (c .before .loop .i) (omega arith) (c .before .loop .inv .1)
+    let s = c .before .before .before .before in
+    let l = c .before .before .loop in
+    let k = c .before .before .before .station-key in
+    key-none (s .args .nodes) (s .args .s) (s .args .keys .now) (s .pre .0) (s .pre .1) (k .result) (k .ensures) (l .i) (omega arith) (l .inv .1)
 
 pub find-node-spec : {M : Type 1} → statement M
 find-node-spec =
@@ -76,11 +72,11 @@ find-node-spec =
     (tie.spec
     Inv-loop
     μ-loop
-    cast-n
+    station-key-requires
     loop-holds
-    mul-e
-    element-copy-out-e
-    same-station-requires
+    cast-if1
+    mul-if2
+    element-copy-out-if2
     cast-result
     returns
     add-i

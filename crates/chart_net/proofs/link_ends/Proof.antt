@@ -10,21 +10,21 @@ use Rattle.chart_net.proofs.link_ends.Tie as tie
 station-of-requires : tie.Need-station-of-requires
 station-of-requires c κs = search needs
 
-place-of-requires : tie.Need-place-of-requires
-place-of-requires c κs = search needs
+place-by-requires : tie.Need-place-by-requires
+place-by-requires c κs = search needs
 
 station-of-requires-2 : tie.Need-station-of-requires-2
 station-of-requires-2 c κs = search needs
 
-place-of-requires-2 : tie.Need-place-of-requires-2
-place-of-requires-2 c κs = search needs
+place-by-requires-2 : tie.Need-place-by-requires-2
+place-by-requires-2 c κs = search needs
 
 returns : tie.Need-returns
 unfolding endPlaces
 returns c =
     let a = c .before .before .before .before .before .before .args in
-    let p : c .before .before .place-of .result ≡ placeFor (a .nodes) (stationOf (a .l .a)) = c .before .before .place-of .ensures ∙ ap (placeFor (a .nodes)) (c .before .before .before .station-of .ensures) in
-    let q : c .place-of2 .result ≡ placeFor (a .nodes) (stationOf (a .l .b)) = c .place-of2 .ensures ∙ ap (placeFor (a .nodes)) (c .before .station-of2 .ensures) in
+    let p : c .before .before .place-by .result ≡ placeFor (a .nodes) (stationOf (a .l .a)) = c .before .before .place-by .ensures ∙ ap (placeFor (a .nodes)) (c .before .before .before .station-of .ensures) in
+    let q : c .place-by2 .result ≡ placeFor (a .nodes) (stationOf (a .l .b)) = c .place-by2 .ensures ∙ ap (placeFor (a .nodes)) (c .before .station-of2 .ensures) in
     λ i. p i ∷ q i ∷ []
 
 pub link-ends-spec : {M : Type 1} → statement M
@@ -32,7 +32,7 @@ link-ends-spec =
     tie.close
     (tie.spec
     station-of-requires
-    place-of-requires
+    place-by-requires
     station-of-requires-2
-    place-of-requires-2
+    place-by-requires-2
     returns)

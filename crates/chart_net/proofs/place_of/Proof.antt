@@ -1,22 +1,17 @@
--- `chart_net::place_of` meets its contract: too many nodes are 16, else the node is looked for.
-use mathlib.Core.Path.{sym, _∙_}
+-- `chart_net::place_of` meets its contract: the place by the keys of the nodes.
+use mathlib.Core.Path.{_∙_}
 use borrow.Author.Needs.{needs}
-use Rattle.chart_net.proofs.Places.{place-few, place-many}
 use Rattle.chart_net.proofs.place_of.Statement.{statement}
 use Rattle.chart_net.proofs.place_of.Tie as tie
 
+station-keys-requires : tie.Need-station-keys-requires
+station-keys-requires c κs = search needs
+
+place-by-requires : tie.Need-place-by-requires
+place-by-requires c κs = search needs
+
 returns : tie.Need-returns
-returns c =
-    let a = c .before .before .args in
-    place-many (a .nodes) (a .s) (c .if1 .taken)
-
-find-node-requires : tie.Need-find-node-requires
-find-node-requires c κs = search needs
-
-returns-2 : tie.Need-returns-2
-returns-2 c =
-    let a = c .before .before .before .args in
-    c .find-node .ensures ∙ sym (place-few (a .nodes) (a .s) (c .before .if1 .left))
+returns c = search needs
 
 pub place-of-spec : {M : Type 1} → statement M
-place-of-spec = tie.close (tie.spec returns find-node-requires returns-2)
+place-of-spec = tie.close (tie.spec station-keys-requires place-by-requires returns)

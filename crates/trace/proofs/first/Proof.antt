@@ -2,10 +2,9 @@
 use mathlib.Core.Path.{_≡_, sym, ap, _∙_}
 use borrow.Author.Needs.{needs}
 use Rattle.chart_write.specs.Numbers.{chartNumber}
-use Rattle.search.specs.Answers.{Told, firstRoute, firstIn}
+use Rattle.search.specs.Answers.{Told, firstRoute}
 use Rattle.search.proofs.Telling.{carried}
 use Rattle.chart_net.specs.Net.{routesOf}
-use Rattle.chart_net.specs.Arrays.{placeFor, endsFor, waysFor}
 use Rattle.trace.proofs.Laws.{first-self, first-refused, first-kept}
 use Rattle.trace.proofs.first.Statement.{statement}
 use Rattle.trace.proofs.first.Tie as tie
@@ -18,52 +17,20 @@ returns c =
     let a = c .before .before .before .args in
     first-refused (a .c) (a .buf .now) (c .before .chart-number .result) (c .before .chart-number .ensures) (c .if1 .taken)
 
-ends-of-requires : tie.Need-ends-of-requires
-ends-of-requires c κs = search needs
-
-ways-of-requires : tie.Need-ways-of-requires
-ways-of-requires c κs = search needs
-
-place-of-requires : tie.Need-place-of-requires
-place-of-requires c κs = search needs
-
-place-of-requires-2 : tie.Need-place-of-requires-2
-place-of-requires-2 c κs = search needs
-
-cast-first-route : tie.Need-cast-first-route
-cast-first-route c = search needs
-
-first-route-requires : tie.Need-first-route-requires
-first-route-requires c κs = search needs
+first-kept-requires : tie.Need-first-kept-requires
+first-kept-requires c κs = search needs
 
 same-length : tie.Need-same-length
 same-length c = search needs
 
 returns-2 : tie.Need-returns-2
 returns-2 c =
-    let a = c .before .before .before .before .before .before .before .before .before .before .before .before .before .before .args in
-    let n = a .c .nodes in
-    let l = a .c .links in
-    let ok : chartNumber (a .c) ≡ 0 = sym (c .before .before .before .before .before .before .before .before .before .before .before .before .chart-number .ensures) ∙ c .before .before .before .before .before .before .before .before .before .before .before .if1 .left in
-    let ends : c .before .before .before .before .before .before .before .before .ends-of .result ≡ endsFor n l = c .before .before .before .before .before .before .before .before .ends-of .ensures in
-    let ways : c .before .before .before .before .before .before .before .ways-of .result ≡ waysFor l = c .before .before .before .before .before .before .before .ways-of .ensures in
-    let from : c .before .before .before .before .before .before .place-of .result ≡ placeFor n (a .c .from) = c .before .before .before .before .before .before .place-of .ensures in
-    let to : c .before .before .before .before .before .place-of2 .result ≡ placeFor n (a .c .to) = c .before .before .before .before .before .place-of2 .ensures in
-    let e = (λ j. firstIn (ends j) (ways j) (l .count) (from j) (to j) (a .buf .now)) ∙ first-kept (a .c) ok (a .buf .now) in
-    let h = c .before .before .first-route .ensures in
-    carried (firstRoute (routesOf (a .c))) (a .buf .now) (h .0 ∙ ap (λ (t : Told). t .answer) e) (h .1 .0 ∙ ap (λ (t : Told). t .bytes) e) (first-self (a .c) (a .buf .now))
+    let a = c .before .before .before .before .before .before .before .args in
+    let ok : chartNumber (a .c) ≡ 0 = sym (c .before .before .before .before .before .chart-number .ensures) ∙ c .before .before .before .before .if1 .left in
+    let e = first-kept (a .c) ok (a .buf .now) in
+    let h = c .before .before .first-kept .ensures in
+    carried (firstRoute (routesOf (a .c))) (a .buf .now) (h .0 ∙ ap (λ (t : Told). t .answer) e) (h .1 ∙ ap (λ (t : Told). t .bytes) e) (first-self (a .c) (a .buf .now))
 
 pub first-spec : {M : Type 1} → statement M
 first-spec =
-    tie.close
-    (tie.spec
-    chart-number-requires
-    returns
-    ends-of-requires
-    ways-of-requires
-    place-of-requires
-    place-of-requires-2
-    cast-first-route
-    first-route-requires
-    same-length
-    returns-2)
+    tie.close (tie.spec chart-number-requires returns first-kept-requires same-length returns-2)

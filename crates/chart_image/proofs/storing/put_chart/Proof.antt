@@ -33,7 +33,7 @@ put-nodes-requires : tie.Need-put-nodes-requires
 put-nodes-requires c κs = search needs
 
 put-links-requires : tie.Need-put-links-requires
-put-links-requires c κs = search needs
+put-links-requires c κs = c .before .before .before .before .before .before .before .before .before .before .before .before .before .before .before .before .before .before .before .before .before .before .before .before .before .pre
 
 same-length : tie.Need-same-length
 same-length c = search needs

@@ -1,87 +1,57 @@
--- `chart_image::storing::put_links` meets its contract. The loop's invariant: the links before i are stored.
-use Prim.Native.Nat.{_≤_, _-_}
-use mathlib.Core.Path.{_≡_, sym, ap, refl, _∙_}
+-- `chart_image::storing::put_links` meets its contract: the links that are there, and zeros at the places past them.
+use Prim.Native.Nat.{ℕ, _-_, _*_}
+use mathlib.Core.Path.{sym, _∙_}
 use native.Mathlib.Omega.{arith}
-use lib.ListN.{length}
-use lib.Seq.{sets}
-use Rattle.lists.specs.Places.{joined, elementAt}
-use Rattle.lists.proofs.Places.{joined-none}
-use Rattle.lists.proofs.Stores.{joined-stored}
-use Rattle.chart.specs.Values.{linkAt}
-use Rattle.chart_write.specs.Writing.{linkBody}
-use Rattle.chart_image.proofs.Laws.{length-link}
+use lib.ListN.{replicate}
+use lib.Seq.{length-take-le}
 use borrow.Author.Needs.{needs}
+use Rattle.chart_image.proofs.Laws.{links-padded}
 use Rattle.chart_image.proofs.storing.put_links.Statement.{statement}
 use Rattle.chart_image.proofs.storing.put_links.Tie as tie
 
-abbrev Inv-loop : tie.InvT-loop
-Inv-loop image₀ links i₀ image i =
-    (i ≤ 48) × (image ≡ sets image₀ 456 (joined linkBody (linkAt links) i)) × (length image ≡ length image₀)
+put-used-requires : tie.Need-put-used-requires
+put-used-requires c κs = search needs
 
-abbrev μ-loop : tie.MeasureT-loop
-μ-loop image₀ links i₀ image i = 48 - i
+cast-used : tie.Need-cast-used
+cast-used c = search needs
 
-loop-holds : tie.Need-loop-holds Inv-loop μ-loop
-loop-holds c = (omega arith, rw joined-none, refl)
+mul-used : tie.Need-mul-used
+mul-used c = search needs
 
-mul-l : tie.Need-mul-l Inv-loop μ-loop
-mul-l c = search needs
+sub-spare : tie.Need-sub-spare
+sub-spare c = search needs
 
-element-copy-out-l : tie.Need-element-copy-out-l Inv-loop μ-loop
-element-copy-out-l c = search needs
-
-link-image-requires : tie.Need-link-image-requires Inv-loop μ-loop
-link-image-requires c κs = search needs
-
-mul-put-all : tie.Need-mul-put-all Inv-loop μ-loop
-mul-put-all c = search needs
-
-add-put-all : tie.Need-add-put-all Inv-loop μ-loop
+add-put-all : tie.Need-add-put-all
 add-put-all c = search needs
 
-slice-aggregate-put-all : tie.Need-slice-aggregate-put-all Inv-loop μ-loop
-slice-aggregate-put-all c = sym (ap length (c .before .before .link-image .ensures) ∙ length-link _)
+array-share-prefix-zeros : tie.Need-array-share-prefix-zeros
+array-share-prefix-zeros c = search needs
 
-put-all-requires : tie.Need-put-all-requires Inv-loop μ-loop
+slice-aggregate-put-all : tie.Need-slice-aggregate-put-all
+slice-aggregate-put-all c = sym (length-take-le {A = ℕ} (432 - 9 * c .before .before .before .before .before .before .before .before .args .links .count) (replicate 432 0) (omega arith))
+
+put-all-requires : tie.Need-put-all-requires
 put-all-requires c κs = search needs
 
-add-i : tie.Need-add-i Inv-loop μ-loop
-add-i c = search needs
+same-length : tie.Need-same-length
+same-length c = search needs
 
-loop-less : tie.Need-loop-less Inv-loop μ-loop
-loop-less c = search needs
-
-loop-again : tie.Need-loop-again Inv-loop μ-loop
-unfolding linkAt elementAt
-loop-again c =
-    let l = c .before .before .before .before .before .before .before .before .loop in
-    (omega arith, rw (c .before .before .put-all .ensures, l .inv .1, c .before .before .before .before .before .link-image .ensures) (joined-stored linkBody 9 length-link (c .before .before .before .before .before .before .before .before .before .before .args .image .now) 456 (linkAt (c .before .before .before .before .before .before .before .before .before .before .args .t2)) (l .i)), omega (arith, c .before .before .put-all .kept .0, l .inv .2))
-
-same-length : tie.Need-same-length Inv-loop μ-loop
-same-length c = c .before .loop .inv .2
-
-returns : tie.Need-returns Inv-loop μ-loop
+returns : tie.Need-returns
 returns c =
-    let l = c .before .loop in
-    let e : l .i ≡ 48 = omega arith in
-    rw e at (l .inv .1)
+    let s = c .before .before .before .before .before .before .before .before .before .before .before in
+    c .before .before .put-all .ensures ∙ rw (c .before .before .before .before .before .before .before .before .put-used .ensures) (links-padded (s .args .image .now) (s .args .links) (s .pre))
 
 pub put-links-spec : {M : Type 1} → statement M
 put-links-spec =
     tie.close
     (tie.spec
-    Inv-loop
-    μ-loop
-    loop-holds
-    mul-l
-    element-copy-out-l
-    link-image-requires
-    mul-put-all
+    put-used-requires
+    cast-used
+    mul-used
+    sub-spare
     add-put-all
+    array-share-prefix-zeros
     slice-aggregate-put-all
     put-all-requires
-    add-i
-    loop-less
-    loop-again
     same-length
     returns)

@@ -1,11 +1,21 @@
 -- `chart_write::numbers::chart_number` meets its contract: the counts decide, then the first bad value.
+use Prim.Native.Nat.{_≤_}
 use mathlib.Core.Path.{sym, _∙_}
+use native.Mathlib.Omega.{arith}
 use borrow.Author.Tests.{lt-ltb, le-ltb}
-use Rattle.lists.proofs.Chains.{stops, passes, or-stops, or-passes}
-use Rattle.chart_write.specs.Numbers.{valuesNumber, chartNumber}
 use borrow.Author.Needs.{needs}
+use Rattle.lists.proofs.Chains.{stops, passes, or-stops, or-passes}
+use Rattle.chart_keys.proofs.ByKeys.{keyed-of, question-keyed}
+use Rattle.chart_write.specs.Numbers.{valuesNumber, chartNumber}
 use Rattle.chart_write.proofs.numbers.chart_number.Statement.{statement}
 use Rattle.chart_write.proofs.numbers.chart_number.Tie as tie
+
+-- the question's node numbers have two bytes
+from-fits : (s : tie.Start) → s .args .c .from .node .0 ≤ 65535
+from-fits s = omega arith
+
+to-fits : (s : tie.Start) → s .args .c .to .node .0 ≤ 65535
+to-fits s = omega arith
 
 returns : tie.Need-returns
 unfolding chartNumber valuesNumber
@@ -15,26 +25,40 @@ returns-2 : tie.Need-returns-2
 unfolding chartNumber valuesNumber
 returns-2 c = passes 26 (le-ltb _ _ (c .before .before .before .if1 .left)) (stops 26 _ (lt-ltb _ _ (c .if2 .taken)))
 
+station-keys-requires : tie.Need-station-keys-requires
+station-keys-requires c κs = search needs
+
 nodes-number-requires : tie.Need-nodes-number-requires
-nodes-number-requires c κs = search needs
+nodes-number-requires c κs = (c .before .before .before .before .before .if1 .left, keyed-of _ _ (c .before .before .before .before .before .if1 .left) (c .before .station-keys .ensures))
 
 returns-3 : tie.Need-returns-3
 unfolding chartNumber valuesNumber
-returns-3 c = passes 26 (le-ltb _ _ (c .before .before .before .before .before .if1 .left)) (passes 26 (le-ltb _ _ (c .before .before .if2 .left)) (or-stops _ (c .before .nodes-number .ensures) (c .if3 .taken)))
+returns-3 c = passes 26 (le-ltb _ _ (c .before .before .before .before .before .before .before .if1 .left)) (passes 26 (le-ltb _ _ (c .before .before .before .before .if2 .left)) (or-stops _ (c .before .nodes-number .ensures) (c .if3 .taken)))
+
+near-keys-requires : tie.Need-near-keys-requires
+near-keys-requires c κs = search needs
+
+far-keys-requires : tie.Need-far-keys-requires
+far-keys-requires c κs = search needs
 
 links-number-requires : tie.Need-links-number-requires
-links-number-requires c κs = search needs
+links-number-requires c κs = (c .before .before .before .before .before .before .before .before .before .if2 .left, keyed-of _ _ (c .before .before .before .before .before .before .before .before .before .before .before .before .if1 .left) (c .before .before .before .before .before .before .before .before .station-keys .ensures), record { a = c .before .before .before .before .near-keys .ensures; b = c .before .before .before .far-keys .ensures })
 
 returns-4 : tie.Need-returns-4
 unfolding chartNumber valuesNumber
-returns-4 c = passes 26 (le-ltb _ _ (c .before .before .before .before .before .before .before .if1 .left)) (passes 26 (le-ltb _ _ (c .before .before .before .before .if2 .left)) (or-passes (sym (c .before .before .before .nodes-number .ensures) ∙ c .before .before .if3 .left) (or-stops _ (c .before .links-number .ensures) (c .if4 .taken))))
+returns-4 c = passes 26 (le-ltb _ _ (c .before .before .before .before .before .before .before .before .before .before .before .before .before .before .if1 .left)) (passes 26 (le-ltb _ _ (c .before .before .before .before .before .before .before .before .before .before .before .if2 .left)) (or-passes (sym (c .before .before .before .before .before .before .before .before .nodes-number .ensures) ∙ c .before .before .before .before .before .before .before .if3 .left) (or-stops _ (c .before .links-number .ensures) (c .if4 .taken))))
+
+cast-question-number : tie.Need-cast-question-number
+cast-question-number c = search needs
 
 question-number-requires : tie.Need-question-number-requires
 question-number-requires c κs = search needs
 
 returns-5 : tie.Need-returns-5
 unfolding chartNumber valuesNumber
-returns-5 c = passes 26 (le-ltb _ _ (c .before .before .before .before .before .before .before .before .if1 .left)) (passes 26 (le-ltb _ _ (c .before .before .before .before .before .if2 .left)) (or-passes (sym (c .before .before .before .before .nodes-number .ensures) ∙ c .before .before .before .if3 .left) (or-passes (sym (c .before .before .links-number .ensures) ∙ c .before .if4 .left) (c .question-number .ensures))))
+returns-5 c =
+    let s = c .before .before .before .before .before .before .before .before .before .before .before .before .before .before .before .before .before .before .before .before in
+    passes 26 (le-ltb _ _ (c .before .before .before .before .before .before .before .before .before .before .before .before .before .before .before .before .before .if1 .left)) (passes 26 (le-ltb _ _ (c .before .before .before .before .before .before .before .before .before .before .before .before .before .before .if2 .left)) (or-passes (sym (c .before .before .before .before .before .before .before .before .before .before .before .nodes-number .ensures) ∙ c .before .before .before .before .before .before .before .before .before .before .if3 .left) (or-passes (sym (c .before .before .before .before .links-number .ensures) ∙ c .before .before .before .if4 .left) (c .question-number .ensures ∙ question-keyed (s .args .c .nodes) _ (keyed-of _ _ (c .before .before .before .before .before .before .before .before .before .before .before .before .before .before .before .before .before .if1 .left) (c .before .before .before .before .before .before .before .before .before .before .before .before .before .station-keys .ensures)) _ (s .args .c .from) (s .args .c .to) (from-fits s) (to-fits s)))))
 
 pub chart-number-spec : {M : Type 1} → statement M
 chart-number-spec =
@@ -42,9 +66,13 @@ chart-number-spec =
     (tie.spec
     returns
     returns-2
+    station-keys-requires
     nodes-number-requires
     returns-3
+    near-keys-requires
+    far-keys-requires
     links-number-requires
     returns-4
+    cast-question-number
     question-number-requires
     returns-5)

@@ -1,38 +1,31 @@
 -- `chart_write::numbers::links_number` meets its contract. The loop's invariant: no link before i has a number.
-use Prim.Native.Nat.{_≤_, _-_}
+use Prim.Native.Nat.{_≤_, _<_, _-_}
 use mathlib.Core.Path.{_≡_, sym, _∙_}
+use native.Mathlib.Omega.{arith}
 use lib.ListN.{length, length-map}
+use borrow.Author.Needs.{needs}
 use Rattle.lists.specs.Chains.{firstNumber}
 use Rattle.lists.proofs.Chains.{number-none, number-more, number-found}
 use Rattle.chart_write.specs.Numbers.{linkNumberAt}
 use Rattle.chart_write.proofs.Laws.{link-number-read}
-use borrow.Author.Needs.{needs}
-use native.Mathlib.Omega.{arith}
 use Rattle.chart_write.proofs.numbers.links_number.Statement.{statement}
 use Rattle.chart_write.proofs.numbers.links_number.Tie as tie
 
 abbrev Inv-loop : tie.InvT-loop
-Inv-loop nodes links i₀ i =
-    (i ≤ links .count) × (firstNumber (linkNumberAt nodes links) i ≡ 0)
+Inv-loop nodes keys near far links m i₀ i = (i ≤ links .count) × (firstNumber (linkNumberAt nodes links) i ≡ 0)
 
 abbrev μ-loop : tie.MeasureT-loop
-μ-loop nodes links i₀ i = links .count - i
+μ-loop nodes keys near far links m i₀ i = links .count - i
 
 -- the array has 48 places
-whole : (s : tie.Start Inv-loop μ-loop) → length (s .args .t2 .items) ≡ 48
-whole s = simp length-map at (s .good .1 .0 .1 .1 .1 .0 .1 .0 .1)
+whole : (s : tie.Start Inv-loop μ-loop) → length (s .args .t3 .items) ≡ 48
+whole s = simp length-map at (s .good .1 .1 .0 .1 .1 .1 .0 .1 .0 .1)
+
+cast-m : tie.Need-cast-m Inv-loop μ-loop
+cast-m c = search needs
 
 loop-holds : tie.Need-loop-holds Inv-loop μ-loop
 loop-holds c = (omega arith, number-none _)
-
-cast-loop : tie.Need-cast-loop Inv-loop μ-loop
-cast-loop c = search needs
-
-cast-links-before : tie.Need-cast-links-before Inv-loop μ-loop
-cast-links-before c = search needs
-
-links-before-requires : tie.Need-links-before-requires Inv-loop μ-loop
-links-before-requires c κs = search needs
 
 mul-l : tie.Need-mul-l Inv-loop μ-loop
 mul-l c = search needs
@@ -40,15 +33,19 @@ mul-l c = search needs
 element-copy-out-l : tie.Need-element-copy-out-l Inv-loop μ-loop
 element-copy-out-l c = search needs
 
+cast-link-number : tie.Need-cast-link-number Inv-loop μ-loop
+cast-link-number c = search needs
+
 link-number-requires : tie.Need-link-number-requires Inv-loop μ-loop
 link-number-requires c κs = search needs
 
 returns : tie.Need-returns Inv-loop μ-loop
 returns c =
-    let s = (c .before .before .before .before .before .before) in
+    let s = c .before .before .before .before .before .before in
     let l = c .before .before .before .before .before .loop in
-    let e = c .before .link-number .ensures ∙ link-number-read (s .args .nodes) (s .args .t2) _ _ (l .i) (omega (arith, whole s)) (c .before .before .before .links-before .ensures) in
-    e ∙ sym (number-found (linkNumberAt (s .args .nodes) (s .args .t2)) (s .args .t2 .count) (l .i) (c .before .before .before .before .loop-test .taken) (l .inv .1) (λ z. c .if1 .taken (e ∙ z)))
+    let h = c .before .before .before .before .loop-test .taken in
+    let e = c .before .link-number .ensures ∙ link-number-read (s .args .nodes) (s .args .keys .now) (s .pre .1) (s .args .t3) (s .args .near .now) (s .args .far .now) (s .pre .2) _ (l .i) h (omega (arith, whole s)) in
+    e ∙ sym (number-found (linkNumberAt (s .args .nodes) (s .args .t3)) (s .args .t3 .count) (l .i) h (l .inv .1) (λ z. c .if1 .taken (e ∙ z)))
 
 add-i : tie.Need-add-i Inv-loop μ-loop
 add-i c = search needs
@@ -58,14 +55,15 @@ loop-less c = search needs
 
 loop-again : tie.Need-loop-again Inv-loop μ-loop
 loop-again c =
-    let s = (c .before .before .before .before .before .before) in
+    let s = c .before .before .before .before .before .before in
     let l = c .before .before .before .before .before .loop in
-    (omega arith, number-more (linkNumberAt (s .args .nodes) (s .args .t2)) (l .i) (l .inv .1) (sym (c .before .link-number .ensures ∙ link-number-read (s .args .nodes) (s .args .t2) _ _ (l .i) (omega (arith, whole s)) (c .before .before .before .links-before .ensures)) ∙ c .if1 .left))
+    let h = c .before .before .before .before .loop-test .taken in
+    (omega arith, number-more (linkNumberAt (s .args .nodes) (s .args .t3)) (l .i) (l .inv .1) (sym (c .before .link-number .ensures ∙ link-number-read (s .args .nodes) (s .args .keys .now) (s .pre .1) (s .args .t3) (s .args .near .now) (s .args .far .now) (s .pre .2) _ (l .i) h (omega (arith, whole s))) ∙ c .if1 .left))
 
 returns-2 : tie.Need-returns-2 Inv-loop μ-loop
 returns-2 c =
     let l = c .before .loop in
-    let e : l .i ≡ c .before .before .args .t2 .count = omega arith in
+    let e : l .i ≡ c .before .before .args .t3 .count = omega arith in
     sym (rw e at (l .inv .1))
 
 pub links-number-spec : {M : Type 1} → statement M
@@ -74,12 +72,11 @@ links-number-spec =
     (tie.spec
     Inv-loop
     μ-loop
+    cast-m
     loop-holds
-    cast-loop
-    cast-links-before
-    links-before-requires
     mul-l
     element-copy-out-l
+    cast-link-number
     link-number-requires
     returns
     add-i

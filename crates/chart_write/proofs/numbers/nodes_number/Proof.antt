@@ -1,54 +1,48 @@
 -- `chart_write::numbers::nodes_number` meets its contract. The loop's invariant: no node before i has a number.
-use Prim.Native.Nat.{_≤_, _-_}
+use Prim.Native.Nat.{_≤_, _<_, _-_}
 use mathlib.Core.Path.{_≡_, sym, _∙_}
+use native.Mathlib.Omega.{arith}
 use lib.ListN.{length, length-map}
+use borrow.Author.Needs.{needs}
 use Rattle.lists.specs.Chains.{firstNumber}
 use Rattle.lists.proofs.Chains.{number-none, number-more, number-found}
 use Rattle.chart_write.specs.Numbers.{nodeNumberAt}
 use Rattle.chart_write.proofs.Laws.{node-number-read}
-use borrow.Author.Needs.{needs}
-use native.Mathlib.Omega.{arith}
 use Rattle.chart_write.proofs.numbers.nodes_number.Statement.{statement}
 use Rattle.chart_write.proofs.numbers.nodes_number.Tie as tie
 
 abbrev Inv-loop : tie.InvT-loop
-Inv-loop nodes i₀ i =
-    (i ≤ nodes .count) × (firstNumber (nodeNumberAt nodes) i ≡ 0)
+Inv-loop keys nodes n i₀ i = (i ≤ nodes .count) × (firstNumber (nodeNumberAt nodes) i ≡ 0)
 
 abbrev μ-loop : tie.MeasureT-loop
-μ-loop nodes i₀ i = nodes .count - i
+μ-loop keys nodes n i₀ i = nodes .count - i
 
 -- the array has 16 places
 whole : (s : tie.Start Inv-loop μ-loop) → length (s .args .t1 .items) ≡ 16
 whole s = simp length-map at (s .good .0 .1 .1 .1 .0 .1 .0 .1)
 
+cast-n : tie.Need-cast-n Inv-loop μ-loop
+cast-n c = search needs
+
 loop-holds : tie.Need-loop-holds Inv-loop μ-loop
 loop-holds c = (omega arith, number-none _)
 
-cast-loop : tie.Need-cast-loop Inv-loop μ-loop
-cast-loop c = search needs
+mul-node : tie.Need-mul-node Inv-loop μ-loop
+mul-node c = search needs
 
-cast-nodes-before : tie.Need-cast-nodes-before Inv-loop μ-loop
-cast-nodes-before c = search needs
-
-nodes-before-requires : tie.Need-nodes-before-requires Inv-loop μ-loop
-nodes-before-requires c κs = search needs
-
-mul-n : tie.Need-mul-n Inv-loop μ-loop
-mul-n c = search needs
-
-element-copy-out-n : tie.Need-element-copy-out-n Inv-loop μ-loop
-element-copy-out-n c = search needs
+element-copy-out-node : tie.Need-element-copy-out-node Inv-loop μ-loop
+element-copy-out-node c = search needs
 
 node-number-requires : tie.Need-node-number-requires Inv-loop μ-loop
 node-number-requires c κs = search needs
 
 returns : tie.Need-returns Inv-loop μ-loop
 returns c =
-    let s = (c .before .before .before .before .before .before) in
-    let l = c .before .before .before .before .before .loop in
-    let e = c .before .node-number .ensures ∙ node-number-read (s .args .t1) _ _ (l .i) (omega (arith, whole s)) (c .before .before .before .nodes-before .ensures) in
-    e ∙ sym (number-found (nodeNumberAt (s .args .t1)) (s .args .t1 .count) (l .i) (c .before .before .before .before .loop-test .taken) (l .inv .1) (λ z. c .if1 .taken (e ∙ z)))
+    let s = c .before .before .before .before .before in
+    let l = c .before .before .before .before .loop in
+    let h = c .before .before .before .loop-test .taken in
+    let e = c .before .node-number .ensures ∙ node-number-read (s .args .t1) (s .args .keys .now) (s .pre .1) _ (l .i) h (omega (arith, whole s)) in
+    e ∙ sym (number-found (nodeNumberAt (s .args .t1)) (s .args .t1 .count) (l .i) h (l .inv .1) (λ z. c .if1 .taken (e ∙ z)))
 
 add-i : tie.Need-add-i Inv-loop μ-loop
 add-i c = search needs
@@ -58,9 +52,10 @@ loop-less c = search needs
 
 loop-again : tie.Need-loop-again Inv-loop μ-loop
 loop-again c =
-    let s = (c .before .before .before .before .before .before) in
-    let l = c .before .before .before .before .before .loop in
-    (omega arith, number-more (nodeNumberAt (s .args .t1)) (l .i) (l .inv .1) (sym (c .before .node-number .ensures ∙ node-number-read (s .args .t1) _ _ (l .i) (omega (arith, whole s)) (c .before .before .before .nodes-before .ensures)) ∙ c .if1 .left))
+    let s = c .before .before .before .before .before in
+    let l = c .before .before .before .before .loop in
+    let h = c .before .before .before .loop-test .taken in
+    (omega arith, number-more (nodeNumberAt (s .args .t1)) (l .i) (l .inv .1) (sym (c .before .node-number .ensures ∙ node-number-read (s .args .t1) (s .args .keys .now) (s .pre .1) _ (l .i) h (omega (arith, whole s))) ∙ c .if1 .left))
 
 returns-2 : tie.Need-returns-2 Inv-loop μ-loop
 returns-2 c =
@@ -74,12 +69,10 @@ nodes-number-spec =
     (tie.spec
     Inv-loop
     μ-loop
+    cast-n
     loop-holds
-    cast-loop
-    cast-nodes-before
-    nodes-before-requires
-    mul-n
-    element-copy-out-n
+    mul-node
+    element-copy-out-node
     node-number-requires
     returns
     add-i

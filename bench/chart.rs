@@ -1,0 +1,281 @@
+//! One call on a chart by an ordinary Rust program, made over and over: chart CALL FILE TIMES.
+//! CALL is none, read (a chart's bytes into the 888-byte image of include/poztecameh.h), write (the image's chart as bytes) or
+//! net (a chart's bytes into the ends of its links as node places: what comes before a search). The refusals are document 01's.
+
+/// A value that the compiler knows nothing of.
+#[inline(never)]
+fn hidden<T>(value: T) -> T {
+    unsafe {
+        let copy = std::ptr::read_volatile(&value);
+        std::mem::forget(value);
+        copy
+    }
+}
+
+#[derive(Clone, Copy, PartialEq)]
+struct Station {
+    brigade: u8,
+    node: u16,
+}
+
+#[derive(Clone, Copy, PartialEq)]
+struct End {
+    station: Station,
+    port: u8,
+}
+
+struct Node {
+    station: Station,
+    label: Vec<u8>,
+}
+
+struct Link {
+    a: End,
+    b: End,
+    on: bool,
+}
+
+#[derive(Default)]
+struct Chart {
+    nodes: Vec<Node>,
+    links: Vec<Link>,
+    question: Option<(Station, Station)>,
+}
+
+fn station(b: &[u8]) -> Station {
+    Station { brigade: b[0], node: u16::from_be_bytes([b[1], b[2]]) }
+}
+
+fn end(b: &[u8]) -> End {
+    End { station: station(b), port: b[3] }
+}
+
+impl Station {
+    fn in_range(self) -> bool {
+        self.node <= 1023
+    }
+
+    fn bytes(self) -> [u8; 3] {
+        let [high, low] = self.node.to_be_bytes();
+        [self.brigade, high, low]
+    }
+}
+
+impl End {
+    fn in_range(self) -> bool {
+        self.station.in_range() && (1..=63).contains(&self.port)
+    }
+
+    fn bytes(self) -> [u8; 4] {
+        let [brigade, high, low] = self.station.bytes();
+        [brigade, high, low, self.port]
+    }
+}
+
+impl Chart {
+    fn place(&self, station: Station) -> Option<usize> {
+        self.nodes.iter().position(|node| node.station == station)
+    }
+
+    fn used(&self, end: End) -> bool {
+        self.links.iter().any(|link| link.a == end || link.b == end)
+    }
+
+    fn add_node(&mut self, station: Station, label: &[u8]) -> Result<(), u8> {
+        if !station.in_range() || !label.iter().all(|byte| (32..=126).contains(byte)) {
+            return Err(24);
+        }
+        if !self.links.is_empty() || self.question.is_some() {
+            return Err(25);
+        }
+        if self.nodes.len() == 16 {
+            return Err(26);
+        }
+        if self.place(station).is_some() {
+            return Err(27);
+        }
+        self.nodes.push(Node { station, label: label.to_vec() });
+        Ok(())
+    }
+
+    fn add_link(&mut self, link: Link) -> Result<(), u8> {
+        if !link.a.in_range() || !link.b.in_range() {
+            return Err(24);
+        }
+        if self.question.is_some() {
+            return Err(25);
+        }
+        if self.links.len() == 48 {
+            return Err(26);
+        }
+        if self.place(link.a.station).is_none() || self.place(link.b.station).is_none() {
+            return Err(28);
+        }
+        if link.a.station == link.b.station {
+            return Err(29);
+        }
+        if self.used(link.a) || self.used(link.b) {
+            return Err(30);
+        }
+        self.links.push(link);
+        Ok(())
+    }
+
+    fn ask(&mut self, from: Station, to: Station) -> Result<(), u8> {
+        if !from.in_range() || !to.in_range() {
+            return Err(24);
+        }
+        if self.question.is_some() {
+            return Err(25);
+        }
+        if self.place(from).is_none() || self.place(to).is_none() {
+            return Err(28);
+        }
+        self.question = Some((from, to));
+        Ok(())
+    }
+
+    fn add_field(&mut self, tag: u8, body: &[u8]) -> Result<(), u8> {
+        match (tag, body.len()) {
+            (1, 3..=27) => self.add_node(station(body), &body[3..]),
+            (2, 9) if body[8] > 1 => Err(24),
+            (2, 9) => self.add_link(Link { a: end(body), b: end(&body[4..]), on: body[8] == 1 }),
+            (3, 6) => self.ask(station(body), station(&body[3..])),
+            (1..=3, _) => Err(23),
+            _ => Err(22),
+        }
+    }
+
+    /// The chart, or the number of the first bad field and its place.
+    fn read(bytes: &[u8]) -> Result<Chart, (u8, usize)> {
+        let mut chart = Chart::default();
+        let mut at = 0;
+        while at < bytes.len() {
+            let head = bytes.get(at..at + 3).ok_or((21, at))?;
+            let next = at + 3 + usize::from(u16::from_be_bytes([head[1], head[2]]));
+            let body = bytes.get(at + 3..next).ok_or((21, at))?;
+            chart.add_field(head[0], body).map_err(|number| (number, at))?;
+            at = next;
+        }
+        if chart.question.is_none() {
+            return Err((31, bytes.len()));
+        }
+        Ok(chart)
+    }
+
+    /// The chart that an image holds, or its number.
+    fn of_image(image: &[u8; 888]) -> Result<Chart, u8> {
+        if image[0] > 16 || image[1] > 48 {
+            return Err(26);
+        }
+        let mut chart = Chart::default();
+        for node in image[8..456].chunks_exact(28).take(usize::from(image[0])) {
+            let label = node[4..].get(..usize::from(node[3])).ok_or(23)?;
+            chart.add_node(station(node), label)?;
+        }
+        for link in image[456..].chunks_exact(9).take(usize::from(image[1])) {
+            if link[8] > 1 {
+                return Err(24);
+            }
+            chart.add_link(Link { a: end(link), b: end(&link[4..]), on: link[8] == 1 })?;
+        }
+        chart.ask(station(&image[2..]), station(&image[5..]))?;
+        Ok(chart)
+    }
+
+    fn put_image(&self, image: &mut [u8; 888]) {
+        image.fill(0);
+        image[0] = self.nodes.len() as u8;
+        image[1] = self.links.len() as u8;
+        if let Some((from, to)) = self.question {
+            image[2..5].copy_from_slice(&from.bytes());
+            image[5..8].copy_from_slice(&to.bytes());
+        }
+        for (node, part) in self.nodes.iter().zip(image[8..456].chunks_exact_mut(28)) {
+            part[..3].copy_from_slice(&node.station.bytes());
+            part[3] = node.label.len() as u8;
+            part[4..4 + node.label.len()].copy_from_slice(&node.label);
+        }
+        for (link, part) in self.links.iter().zip(image[456..].chunks_exact_mut(9)) {
+            part[..4].copy_from_slice(&link.a.bytes());
+            part[4..8].copy_from_slice(&link.b.bytes());
+            part[8] = u8::from(link.on);
+        }
+    }
+
+    fn bytes(&self) -> Vec<u8> {
+        let mut bytes = Vec::with_capacity(1065);
+        for node in &self.nodes {
+            bytes.extend([1, 0, 3 + node.label.len() as u8]);
+            bytes.extend(node.station.bytes());
+            bytes.extend(&node.label);
+        }
+        for link in &self.links {
+            bytes.extend([2, 0, 9]);
+            bytes.extend(link.a.bytes());
+            bytes.extend(link.b.bytes());
+            bytes.push(u8::from(link.on));
+        }
+        if let Some((from, to)) = self.question {
+            bytes.extend([3, 0, 6]);
+            bytes.extend(from.bytes());
+            bytes.extend(to.bytes());
+        }
+        bytes
+    }
+
+    /// The ends of each link that is on, and those of the question, as places of nodes.
+    fn net(&self) -> Option<(Vec<(usize, usize, bool)>, usize, usize)> {
+        let (from, to) = self.question?;
+        let mut ends = Vec::with_capacity(48);
+        for link in &self.links {
+            ends.push((self.place(link.a.station)?, self.place(link.b.station)?, link.on));
+        }
+        Some((ends, self.place(from)?, self.place(to)?))
+    }
+}
+
+fn read(bytes: &[u8], image: &mut [u8; 888]) -> u8 {
+    match Chart::read(bytes) {
+        Ok(chart) => {
+            chart.put_image(image);
+            0
+        }
+        Err((number, _)) => number,
+    }
+}
+
+fn write(image: &[u8; 888], out: &mut [u8]) -> u8 {
+    match Chart::of_image(image) {
+        Ok(chart) => {
+            let bytes = chart.bytes();
+            match out.get_mut(..bytes.len()) {
+                Some(part) => {
+                    part.copy_from_slice(&bytes);
+                    0
+                }
+                None => 10,
+            }
+        }
+        Err(number) => number,
+    }
+}
+
+fn main() {
+    let words: Vec<String> = std::env::args().collect();
+    let bytes = std::fs::read(&words[2]).unwrap();
+    let mut image = [0u8; 888];
+    let mut out = [0u8; 4096];
+    assert_eq!(read(&bytes, &mut image), 0);
+    assert_eq!(write(&image, &mut out), 0);
+    assert_eq!(out[..bytes.len()], bytes[..]);
+    for _ in 0..words[3].parse().unwrap() {
+        match words[1].as_str() {
+            "none" => {}
+            "read" => assert_eq!(read(hidden(&bytes), hidden(&mut image)), 0),
+            "write" => assert_eq!(write(hidden(&image), hidden(&mut out)), 0),
+            "net" => assert!(hidden(Chart::read(hidden(&bytes)).ok().and_then(|chart| chart.net())).is_some()),
+            other => panic!("nothing {other}"),
+        }
+    }
+}

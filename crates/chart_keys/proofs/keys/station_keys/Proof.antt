@@ -1,0 +1,81 @@
+-- `chart_keys::keys::station_keys` meets its contract. The loop's invariant: the keys before i stand in the row.
+use Prim.Native.Nat.{ℕ, _≤_, _<_, _-_}
+use mathlib.Core.Path.{_≡_, sym, ap, _∙_}
+use native.Mathlib.Omega.{arith}
+use lib.ListN.{length, length-map}
+use borrow.Author.Needs.{needs}
+use Rattle.lists.specs.Places.{row}
+use Rattle.lists.proofs.Places.{row-none, length-row}
+use Rattle.chart.specs.Values.{nodeAt}
+use Rattle.chart_keys.specs.Keys.{nodeKeyAt}
+use Rattle.chart_keys.proofs.ByKeys.{keys-next, fits-next}
+use Rattle.chart_keys.proofs.keys.station_keys.Statement.{statement}
+use Rattle.chart_keys.proofs.keys.station_keys.Tie as tie
+
+abbrev Inv-loop : tie.InvT-loop
+Inv-loop nodes keys₀ i₀ keys i = (i ≤ 16) × (keys ≡ row 16 0 (nodeKeyAt nodes) i) × ((j : ℕ) → j < i → nodeAt nodes j .station .node .0 ≤ 65535)
+
+abbrev μ-loop : tie.MeasureT-loop
+μ-loop nodes keys₀ i₀ keys i = 16 - i
+
+-- the array has 16 places
+whole : (s : tie.Start Inv-loop μ-loop) → length (s .args .t1 .items) ≡ 16
+whole s = simp length-map at (s .good .0 .1 .1 .1 .0 .1 .0 .1)
+
+loop-holds : tie.Need-loop-holds Inv-loop μ-loop
+loop-holds c = (omega arith, sym (row-none 16 0 _), λ j l. absurd (omega arith))
+
+mul-node : tie.Need-mul-node Inv-loop μ-loop
+mul-node c = search needs
+
+element-copy-out-node : tie.Need-element-copy-out-node Inv-loop μ-loop
+element-copy-out-node c = search needs
+
+station-key-requires : tie.Need-station-key-requires Inv-loop μ-loop
+station-key-requires c κs = search needs
+
+mul-keys : tie.Need-mul-keys Inv-loop μ-loop
+mul-keys c = search needs
+
+array-write-keys : tie.Need-array-write-keys Inv-loop μ-loop
+array-write-keys c = search needs
+
+add-i : tie.Need-add-i Inv-loop μ-loop
+add-i c = search needs
+
+loop-less : tie.Need-loop-less Inv-loop μ-loop
+loop-less c = search needs
+
+loop-again : tie.Need-loop-again Inv-loop μ-loop
+loop-again c =
+    let s = c .before .before .before .before in
+    let l = c .before .before .before .loop in
+    let f : l .i < 16 = c .before .before .loop-test .taken in
+    let g : l .i < length (s .args .t1 .items) = omega (arith, whole s) in (
+      omega arith,
+      keys-next (s .args .t1) (l .keys) _ (l .i) (c .station-key .result) f g (l .inv .1) (c .station-key .ensures),
+      fits-next (s .args .t1) _ (l .i) g (l .inv .2) (c .station-key .ensures),
+    )
+
+returns : tie.Need-returns Inv-loop μ-loop
+returns c =
+    let l = c .before .loop in
+    let e : l .i ≡ 16 = omega arith in
+    record { row = l .inv .1 ∙ ap (row 16 0 (nodeKeyAt (c .before .before .args .t1))) e; fits = λ j h. l .inv .2 j (omega arith) }
+
+pub station-keys-spec : {M : Type 1} → statement M
+station-keys-spec =
+    tie.close
+    (tie.spec
+    Inv-loop
+    μ-loop
+    loop-holds
+    mul-node
+    element-copy-out-node
+    station-key-requires
+    mul-keys
+    array-write-keys
+    add-i
+    loop-less
+    loop-again
+    returns)

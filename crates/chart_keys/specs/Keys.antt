@@ -1,0 +1,107 @@
+-- Keys: a station or an end as one number, so that two of them are compared at once; and the numbers 23 to 30 of one value by the keys of those before it.
+use Prim.Native.Nat.{ℕ, _+_, _*_, _<_, _≤_}
+use mathlib.Core.Path.{_≡_}
+use mathlib.Core.List.{List}
+use mathlib.Core.Bool.{Bool, not, _&&_, _||_}
+use lib.ListN.{getD}
+use lib.Dec.{ltb, leb, eqb}
+use Rattle.lists.specs.Refusals.{refuse}
+use Rattle.lists.specs.Places.{anyBelow, row}
+use Rattle.address.specs.declared.Station.{Station}
+use Rattle.address.specs.declared.Address.{Address}
+use Rattle.address.specs.Address.{stationOf, stationInRange, sameStation}
+use Rattle.chart.specs.declared.ChartNode.{ChartNode}
+use Rattle.chart.specs.declared.Link.{Link}
+use Rattle.chart.specs.declared.Nodes.{Nodes}
+use Rattle.chart.specs.declared.Links.{Links}
+use Rattle.chart.specs.Values.{mostNodes, mostLinks, longestLabel, nodeInRange, linkInRange, nodeAt, linkAt}
+
+-- the three bytes of a station as one number, the four of an end
+unfoldable pub stationKey : Station → ℕ
+stationKey s = s .brigade * 65536 + s .node .0
+
+unfoldable pub endKey : Address → ℕ
+endKey e = e .brigade * 16777216 + e .node .0 * 256 + e .port .0
+
+-- the number is the station's key, and the station's node has two bytes, so that no other station has it
+pub record StationKeyed (s : Station) (k : ℕ) : Type 0 where
+  pub key : k ≡ stationKey s
+  pub node : s .node .0 ≤ 65535
+
+-- the same of an end
+pub record EndKeyed (e : Address) (k : ℕ) : Type 0 where
+  pub key : k ≡ endKey e
+  pub node : e .node .0 ≤ 65535
+  pub port : e .port .0 ≤ 255
+
+-- the key of the node at a place
+unfoldable pub nodeKeyAt : Nodes → ℕ → ℕ
+nodeKeyAt ns i = stationKey (nodeAt ns i .station)
+
+-- the keys of all 16 places of nodes, and each node number there has two bytes
+pub record KeysOf (ns : Nodes) (keys : List ℕ) : Type 0 where
+  pub row : keys ≡ row mostNodes 0 (nodeKeyAt ns) mostNodes
+  pub fits : (i : ℕ) → i < mostNodes → nodeAt ns i .station .node .0 ≤ 65535
+
+-- the keys of the nodes, and those of the links' ends, place by place
+abbrev pub KeyedNodes : Nodes → List ℕ → Type 0
+KeyedNodes ns keys = (i : ℕ) → i < ns .count → StationKeyed (nodeAt ns i .station) (getD keys i 0)
+
+abbrev pub NearKeys : Links → List ℕ → Type 0
+NearKeys ls near = (i : ℕ) → i < ls .count → EndKeyed (linkAt ls i .a) (getD near i 0)
+
+abbrev pub FarKeys : Links → List ℕ → Type 0
+FarKeys ls far = (i : ℕ) → i < ls .count → EndKeyed (linkAt ls i .b) (getD far i 0)
+
+pub record KeyedLinks (ls : Links) (near far : List ℕ) : Type 0 where
+  pub a : NearKeys ls near
+  pub b : FarKeys ls far
+
+-- ---- what is written, by keys
+
+-- the key at a place is this one
+unfoldable pub keyIs : List ℕ → ℕ → ℕ → Bool
+keyIs keys k i = eqb (getD keys i 0) k
+
+-- the station's key is among the first n
+unfoldable pub known : List ℕ → ℕ → Station → Bool
+known keys n s = anyBelow (keyIs keys (stationKey s)) n
+
+-- both stations' keys are
+unfoldable pub bothKnown : List ℕ → ℕ → Station → Station → Bool
+bothKnown keys n s t = known keys n s && known keys n t
+
+-- the end's key is among those of the first m links: of their first ends, or of their second
+unfoldable pub usedBy : List ℕ → List ℕ → ℕ → Address → Bool
+usedBy near far m e = anyBelow (keyIs near (endKey e)) m || anyBelow (keyIs far (endKey e)) m
+
+-- one of a link's ends has a key among those of the first m links
+unfoldable pub eitherBy : List ℕ → List ℕ → ℕ → Link → Bool
+eitherBy near far m l = usedBy near far m (l .a) || usedBy near far m (l .b)
+
+-- ---- the numbers, as in Numbers.antt, by the counts and the tests of what is written
+
+unfoldable pub nodeBy : Bool → ℕ → Bool → ChartNode → ℕ
+nodeBy late count twice n =
+    refuse 23 (ltb longestLabel (n .length))
+    (refuse 24 (not (nodeInRange n))
+    (refuse 25 late
+    (refuse 26 (leb mostNodes count)
+    (refuse 27 twice 0))))
+
+unfoldable pub linkBy : Bool → ℕ → ℕ → Bool → Bool → Link → ℕ
+linkBy late nodes links both used l =
+    refuse 24 (not (linkInRange l))
+    (refuse 25 late
+    (refuse 26 (ltb mostNodes nodes)
+    (refuse 26 (leb mostLinks links)
+    (refuse 28 (not both)
+    (refuse 29 (sameStation (stationOf (l .a)) (stationOf (l .b)))
+    (refuse 30 used 0))))))
+
+unfoldable pub questionBy : Bool → ℕ → Bool → Station → Station → ℕ
+questionBy late nodes both from to =
+    refuse 24 (not (stationInRange from && stationInRange to))
+    (refuse 25 late
+    (refuse 26 (ltb mostNodes nodes)
+    (refuse 28 (not both) 0)))

@@ -1,0 +1,260 @@
+-- What the reader's loop keeps: the walk from here is the whole reading, and the keys are those of the nodes and links that are held.
+use Prim.Native.Nat.{ℕ, _+_, _-_, _<_, _≤_}
+use mathlib.Core.Path.{_≡_, refl, sym, ap, ap₂, subst, _∙_}
+use mathlib.Core.List.{List}
+use mathlib.Core.Bool.{Bool, true, false}
+use native.Mathlib.Omega.{arith}
+use lib.ListN.{length, getD, set, take, drop, replicate, length-set, length-replicate}
+use lib.Dec.{eqb}
+use borrow.Author.Tests.{eq-eqb, ne-eqb}
+use Rattle.lists.specs.Bytes.{Bytes, wordAt}
+use Rattle.address.specs.declared.Station.{Station}
+use Rattle.address.specs.Wide.{stationIn}
+use Rattle.chart.specs.declared.ChartNode.{ChartNode}
+use Rattle.chart.specs.declared.Link.{Link}
+use Rattle.chart.specs.declared.Chart.{Chart}
+use Rattle.chart.specs.Values.{noNode, noLink, noChart}
+use Rattle.chart.specs.Numbers.{nodeNumber, linkNumber}
+use Rattle.chart_keys.specs.Keys.{StationKeyed, EndKeyed, KeyedNodes, KeyedLinks}
+use Rattle.chart.proofs.Laws.{node-passed, link-passed}
+use Rattle.chart_keys.proofs.ByKeys.{keyed-node, keyed-link}
+use Rattle.chart_read.specs.declared.ChartRead.{ChartRead}
+use Rattle.chart_read.specs.Held.{SoFar, Step}
+use Rattle.chart_read.specs.Fields.{tagAt, bodyAt, pastField, nodeIn, linkIn}
+use Rattle.chart_read.specs.Reading.{nothing, nodeLate, withNode, withLink, withQuestion, stepOf, refusedAt, chartReadOf}
+use Rattle.chart_read.specs.ByKeys.{fieldBy}
+use Rattle.chart_read.proofs.Walking.{Reaches, reach-start, reach-next, reach-refused, reach-end, end-unasked, end-asked}
+use Rattle.chart_read.proofs.Laws.{body-made}
+use Rattle.chart_read.proofs.Keyed as keyed
+
+-- the loop's variables
+pub record Turn : Type 0 where
+  pub nodes : List ChartNode
+  pub links : List Link
+  pub from : Station
+  pub to : Station
+  pub keys : List ℕ
+  pub near : List ℕ
+  pub far : List ℕ
+  pub n : ℕ
+  pub m : ℕ
+  pub asked : Bool
+  pub at : ℕ
+
+-- what they hold of the chart
+abbrev pub chartOf : Turn → Chart
+chartOf t = record { nodes = record { count = t .n; items = t .nodes }; links = record { count = t .m; items = t .links }; from = t .from; to = t .to }
+
+abbrev pub soFarOf : Turn → SoFar
+soFarOf t = record { chart = chartOf t; asked = t .asked }
+
+pub record Holding (bytes : List ℕ) (t : Turn) : Type 0 where
+  pub reaches : Reaches bytes (soFarOf t) (t .at)
+  pub nodes : KeyedNodes (chartOf t .nodes) (t .keys)
+  pub links : KeyedLinks (chartOf t .links) (t .near) (t .far)
+  pub few-nodes : t .n ≤ 16
+  pub few-links : t .m ≤ 48
+  pub long-nodes : length (t .nodes) ≡ 16
+  pub long-links : length (t .links) ≡ 48
+  pub long-keys : length (t .keys) ≡ 16
+  pub long-near : length (t .near) ≡ 48
+  pub long-far : length (t .far) ≡ 48
+
+-- before the first field
+abbrev pub firstTurn : ChartNode → Link → Turn
+firstTurn n l =
+    record {
+      nodes = replicate 16 n;
+      links = replicate 48 l;
+      from = n .station;
+      to = n .station;
+      keys = replicate 16 0;
+      near = replicate 48 0;
+      far = replicate 48 0;
+      n = 0;
+      m = 0;
+      asked = false;
+      at = 0;
+    }
+
+nothing-yet : (bytes : List ℕ) → Holding bytes (firstTurn noNode noLink)
+unfolding noChart nothing
+nothing-yet bytes =
+    record {
+      reaches = reach-start bytes;
+      nodes = λ i l. absurd (omega arith);
+      links = record { a = λ i l. absurd (omega arith); b = λ i l. absurd (omega arith) };
+      few-nodes = omega arith;
+      few-links = omega arith;
+      long-nodes = refl;
+      long-links = refl;
+      long-keys = refl;
+      long-near = refl;
+      long-far = refl;
+    }
+
+pub holding-start : (bytes : List ℕ) (n : ChartNode) (l : Link) → n ≡ noNode → l ≡ noLink → Holding bytes (firstTurn n l)
+holding-start bytes n l e f =
+    subst (λ (x : ChartNode). Holding bytes (firstTurn x l)) (sym e) (subst (λ (y : Link). Holding bytes (firstTurn noNode y)) (sym f) (nothing-yet bytes))
+
+abbrev pub numberOf : List ℕ → Turn → ℕ
+numberOf bytes t = fieldBy (t .asked) (t .keys) (t .n) (t .near) (t .far) (t .m) bytes (t .at)
+
+module _ (bytes : List ℕ) (t : Turn) (h : Holding bytes t) (b : Bytes bytes) (l : t .at < length bytes) where
+  number-same : numberOf bytes t ≡ stepOf (soFarOf t) bytes (t .at) .number
+  number-same = keyed.field-same (soFarOf t) (t .keys) (t .near) (t .far) (h .nodes) (h .links) bytes b (t .at)
+
+  pub refused-field : (k : ℕ) → k ≡ numberOf bytes t → (k ≡ 0 → ⊥) → refusedAt k (t .at) ≡ chartReadOf bytes
+  refused-field k e z =
+      ap (λ (x : ℕ). refusedAt x (t .at)) (e ∙ number-same)
+      ∙ reach-refused bytes (soFarOf t) (t .at) l (stepOf (soFarOf t) bytes (t .at)) refl (h .reaches) (λ q. z (e ∙ number-same ∙ q))
+
+  module _ (w : ℕ) (v : w ≡ wordAt bytes (t .at + 1)) (e : numberOf bytes t ≡ 0) where
+    pub past : t .at + 3 + w ≤ length bytes
+    past = omega (arith, keyed.whole (soFarOf t) (t .keys) (t .near) (t .far) (h .nodes) (h .links) bytes b (t .at) e)
+
+    whole : pastField bytes (t .at) ≤ length bytes
+    whole = keyed.whole (soFarOf t) (t .keys) (t .near) (t .far) (h .nodes) (h .links) bytes b (t .at) e
+
+    next-field : t .at + 3 + w ≡ pastField bytes (t .at)
+    next-field = ap (λ (x : ℕ). t .at + 3 + x) v
+
+    abbrev body : List ℕ
+    body = bodyAt bytes (t .at)
+
+    abbrev made : List ℕ
+    made = take (t .at + 3 + w - (t .at + 3)) (drop (t .at + 3) bytes)
+
+    module _ (g : tagAt bytes (t .at) ≡ 1) where
+      node-facts : (3 ≤ length body) × (length body ≤ 27) × (nodeNumber (nodeLate (soFarOf t)) (chartOf t .nodes) (nodeIn body) ≡ 0)
+      node-facts = keyed.node-bounds (soFarOf t) body (keyed.node-zero (soFarOf t) (t .keys) (t .near) (t .far) (h .nodes) (h .links) bytes b (t .at) e (eq-eqb _ _ g))
+
+      pub node-room : t .n < 16
+      node-room = node-passed _ _ _ (node-facts .2) .room
+
+      pub node-length : (3 ≤ length made) × (length made ≤ 27)
+      node-length = subst (λ (x : List ℕ). (3 ≤ length x) × (length x ≤ 27)) (sym (body-made bytes (t .at) w v)) (node-facts .0, node-facts .1)
+
+      -- a node more
+      pub holding-node : (node : ChartNode) (k : ℕ) → node ≡ nodeIn made → StationKeyed (node .station) k
+          → Holding bytes (record {
+            nodes = set (t .nodes) (t .n) node;
+            links = t .links;
+            from = t .from;
+            to = t .to;
+            keys = set (t .keys) (t .n) k;
+            near = t .near;
+            far = t .far;
+            n = t .n + 1;
+            m = t .m;
+            asked = t .asked;
+            at = t .at + 3 + w;
+          })
+      unfolding withNode
+      holding-node node k q s =
+          record {
+            reaches = subst (λ (x : ℕ). Reaches bytes (withNode (soFarOf t) node) x) (sym next-field)
+                (subst (λ (x : ChartNode). Reaches bytes (withNode (soFarOf t) x) (pastField bytes (t .at))) (sym (q ∙ ap nodeIn (body-made bytes (t .at) w v)))
+                (reach-next bytes (soFarOf t) (t .at) l _
+                (keyed.step-node (soFarOf t) bytes (t .at) whole (eq-eqb _ _ g) (keyed.node-zero (soFarOf t) (t .keys) (t .near) (t .far) (h .nodes) (h .links) bytes b (t .at) e (eq-eqb _ _ g)))
+                (h .reaches) refl));
+            nodes = keyed-node (chartOf t .nodes) (t .keys) (h .nodes) node k s (omega (arith, node-room, h .long-nodes)) (omega (arith, node-room, h .long-keys));
+            links = h .links;
+            few-nodes = omega (arith, node-room);
+            few-links = h .few-links;
+            long-nodes = length-set (t .nodes) (t .n) node ∙ h .long-nodes;
+            long-links = h .long-links;
+            long-keys = length-set (t .keys) (t .n) k ∙ h .long-keys;
+            long-near = h .long-near;
+            long-far = h .long-far;
+          }
+
+    module _ (f : tagAt bytes (t .at) ≡ 1 → ⊥) (g : tagAt bytes (t .at) ≡ 2) where
+      link-facts : (length body ≡ 9) × (linkNumber (t .asked) (chartOf t .nodes) (chartOf t .links) (linkIn body) ≡ 0)
+      link-facts = keyed.link-bounds (soFarOf t) body (keyed.link-zero (soFarOf t) (t .keys) (t .near) (t .far) (h .nodes) (h .links) bytes b (t .at) e (ne-eqb _ _ f) (eq-eqb _ _ g))
+
+      pub link-room : t .m < 48
+      link-room = link-passed _ _ _ _ (link-facts .1) .room
+
+      pub link-length : length made ≡ 9
+      link-length = ap length (body-made bytes (t .at) w v) ∙ link-facts .0
+
+      -- a link more
+      pub holding-link : (link : Link) (j k : ℕ) → link ≡ linkIn made → EndKeyed (link .a) j → EndKeyed (link .b) k
+          → Holding bytes (record {
+            nodes = t .nodes;
+            links = set (t .links) (t .m) link;
+            from = t .from;
+            to = t .to;
+            keys = t .keys;
+            near = set (t .near) (t .m) j;
+            far = set (t .far) (t .m) k;
+            n = t .n;
+            m = t .m + 1;
+            asked = t .asked;
+            at = t .at + 3 + w;
+          })
+      unfolding withLink
+      holding-link link j k q sa sb =
+          record {
+            reaches = subst (λ (x : ℕ). Reaches bytes (withLink (soFarOf t) link) x) (sym next-field)
+                (subst (λ (x : Link). Reaches bytes (withLink (soFarOf t) x) (pastField bytes (t .at))) (sym (q ∙ ap linkIn (body-made bytes (t .at) w v)))
+                (reach-next bytes (soFarOf t) (t .at) l _
+                (keyed.step-link (soFarOf t) bytes (t .at) whole (ne-eqb _ _ f) (eq-eqb _ _ g) (keyed.link-zero (soFarOf t) (t .keys) (t .near) (t .far) (h .nodes) (h .links) bytes b (t .at) e (ne-eqb _ _ f) (eq-eqb _ _ g)))
+                (h .reaches) refl));
+            nodes = h .nodes;
+            links = keyed-link (chartOf t .links) (t .near) (t .far) (h .links) link j k sa sb (omega (arith, link-room, h .long-links)) (omega (arith, link-room, h .long-near)) (omega (arith, link-room, h .long-far));
+            few-nodes = h .few-nodes;
+            few-links = omega (arith, link-room);
+            long-nodes = h .long-nodes;
+            long-links = length-set (t .links) (t .m) link ∙ h .long-links;
+            long-keys = h .long-keys;
+            long-near = length-set (t .near) (t .m) j ∙ h .long-near;
+            long-far = length-set (t .far) (t .m) k ∙ h .long-far;
+          }
+
+    -- the question
+    pub holding-question : (f : tagAt bytes (t .at) ≡ 1 → ⊥) (g : tagAt bytes (t .at) ≡ 2 → ⊥) (from to : Station) → from ≡ stationIn made 0 → to ≡ stationIn made 3
+        → Holding bytes (record {
+          nodes = t .nodes;
+          links = t .links;
+          from = from;
+          to = to;
+          keys = t .keys;
+          near = t .near;
+          far = t .far;
+          n = t .n;
+          m = t .m;
+          asked = true;
+          at = t .at + 3 + w;
+        })
+    unfolding withQuestion
+    holding-question f g from to p q =
+        let d = body-made bytes (t .at) w v in
+        let z = keyed.question-zero (soFarOf t) (t .keys) (t .near) (t .far) (h .nodes) (h .links) bytes b (t .at) e (ne-eqb _ _ f) (ne-eqb _ _ g) in
+        let three = keyed.question-tag (soFarOf t) (t .keys) (t .near) (t .far) (h .nodes) (h .links) bytes b (t .at) e (ne-eqb _ _ f) (ne-eqb _ _ g) in
+        record {
+          reaches = subst (λ (x : ℕ). Reaches bytes (withQuestion (soFarOf t) from to) x) (sym next-field)
+              (subst (λ (x : Station). Reaches bytes (withQuestion (soFarOf t) x to) (pastField bytes (t .at))) (sym (p ∙ ap (λ (y : List ℕ). stationIn y 0) d))
+              (subst (λ (x : Station). Reaches bytes (withQuestion (soFarOf t) (stationIn body 0) x) (pastField bytes (t .at))) (sym (q ∙ ap (λ (y : List ℕ). stationIn y 3) d))
+              (reach-next bytes (soFarOf t) (t .at) l _
+              (keyed.step-question (soFarOf t) bytes (t .at) whole (ne-eqb _ _ f) (ne-eqb _ _ g) three z)
+              (h .reaches) refl)));
+          nodes = h .nodes;
+          links = h .links;
+          few-nodes = h .few-nodes;
+          few-links = h .few-links;
+          long-nodes = h .long-nodes;
+          long-links = h .long-links;
+          long-keys = h .long-keys;
+          long-near = h .long-near;
+          long-far = h .long-far;
+        }
+
+-- the input's end
+module _ (bytes : List ℕ) (t : Turn) (h : Holding bytes t) (l : length bytes ≤ t .at) where
+  pub ends-unasked : t .asked ≡ false → refusedAt 31 (length bytes) ≡ chartReadOf bytes
+  ends-unasked e = end-unasked (soFarOf t) (length bytes) e ∙ reach-end bytes (soFarOf t) (t .at) l (h .reaches)
+
+  pub ends-asked : t .asked ≡ true → record { number = 0; place = 0; chart = chartOf t } ≡ chartReadOf bytes
+  ends-asked e = end-asked (soFarOf t) (length bytes) e ∙ reach-end bytes (soFarOf t) (t .at) l (h .reaches)

@@ -1,0 +1,36 @@
+-- `chart_read::numbers::node_body_number` meets its contract: the length decides, then the node's own number.
+use mathlib.Core.Path.{ap, _∙_}
+use borrow.Author.Tests.{lt-ltb, le-ltb}
+use Rattle.lists.proofs.Chains.{stops, passes}
+use Rattle.chart.specs.declared.ChartNode.{ChartNode}
+use Rattle.chart_keys.specs.Keys.{known, nodeBy}
+use Rattle.chart_read.specs.ByKeys.{nodeBodyBy}
+use borrow.Author.Needs.{needs}
+use Rattle.chart_read.proofs.numbers.node_body_number.Statement.{statement}
+use Rattle.chart_read.proofs.numbers.node_body_number.Tie as tie
+
+returns : tie.Need-returns
+unfolding nodeBodyBy
+returns c = stops 23 _ (lt-ltb _ _ (c .if1 .taken))
+
+returns-2 : tie.Need-returns-2
+unfolding nodeBodyBy
+returns-2 c = passes 23 (le-ltb _ _ (c .before .if1 .left)) (stops 23 _ (lt-ltb _ _ (c .if2 .taken)))
+
+node-in-requires : tie.Need-node-in-requires
+node-in-requires c κs = search needs
+
+node-number-requires : tie.Need-node-number-requires
+node-number-requires c κs = search needs
+
+returns-3 : tie.Need-returns-3
+unfolding nodeBodyBy
+returns-3 c =
+    let s = c .before .before .before .before .before in
+    passes 23 (le-ltb _ _ (c .before .before .before .if1 .left))
+    (passes 23 (le-ltb _ _ (c .before .before .if2 .left))
+    (c .node-number .ensures ∙ ap (λ (x : ChartNode). nodeBy (s .args .late) (s .args .n) (known (s .args .keys .now) (s .args .n) (x .station)) x) (c .before .node-in .ensures)))
+
+pub node-body-number-spec : {M : Type 1} → statement M
+node-body-number-spec =
+    tie.close (tie.spec returns returns-2 node-in-requires node-number-requires returns-3)

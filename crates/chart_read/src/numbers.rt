@@ -1,0 +1,135 @@
+// The number of a field, by the keys of the nodes and links before it: the first n of `keys`, the first m of `near` and `far`.
+use crate::bodies::link_in;
+use crate::bodies::node_in;
+ghost use mathlib.Core.Path.{_≡_};
+ghost use mathlib.Core.Bool.{_||_};
+ghost use Prim.Native.Nat.{_<_};
+ghost use lib.ListN.{length};
+ghost use lib.Dec.{ltb};
+ghost use Rattle.chart_read.specs.ByKeys.{nodeBodyBy, linkBodyBy, questionBodyBy, bodyBy, fieldBy};
+
+pub const NODE_TAG: u8 = 1;
+
+pub const LINK_TAG: u8 = 2;
+
+const QUESTION_TAG: u8 = 3;
+
+const SHORTEST_NODE: usize = 3;
+
+const LONGEST_NODE: usize = 27;
+
+const LINK_LENGTH: usize = 9;
+
+const QUESTION_LENGTH: usize = 6;
+
+// A node's body.
+fn node_body_number(late: bool, keys: &[u32; 16], n: usize, b: &[u8]) -> u8
+    ensures { λ r. ⌜ r ≡ nodeBodyBy late (now (keys .entry)) n (now (b .entry)) ⌝ }
+{
+    if b.len() < SHORTEST_NODE {
+        return 23;
+    }
+    if LONGEST_NODE < b.len() {
+        return 23;
+    }
+    let node = node_in(b);
+    chart_keys::node_number(late, keys, n, node)
+}
+
+// A link's body.
+fn link_body_number(
+    asked: bool,
+    keys: &[u32; 16],
+    n: usize,
+    near: &[u32; 48],
+    far: &[u32; 48],
+    m: usize,
+    b: &[u8],
+) -> u8
+    ensures { λ r. ⌜ r ≡ linkBodyBy asked (now (keys .entry)) n (now (near .entry)) (now (far .entry)) m (now (b .entry)) ⌝ }
+{
+    if b.len() != LINK_LENGTH {
+        return 23;
+    }
+    if 1 < b[8] {
+        return 24;
+    }
+    let l = link_in(b);
+    chart_keys::link_number(asked, keys, n, near, far, m, l)
+}
+
+// The question's body.
+fn question_body_number(asked: bool, keys: &[u32; 16], n: usize, b: &[u8]) -> u8
+    ensures { λ r. ⌜ r ≡ questionBodyBy asked (now (keys .entry)) n (now (b .entry)) ⌝ }
+{
+    if b.len() != QUESTION_LENGTH {
+        return 23;
+    }
+    let from = wide::station_in(b, 0);
+    let to = wide::station_in(b, 3);
+    chart_keys::question_number(asked, keys, n, from, to)
+}
+
+// Whether a node comes too late.
+fn node_late(asked: bool, m: usize) -> bool
+    ensures { λ r. ⌜ r ≡ (asked || ltb 0 m) ⌝ }
+{
+    if asked {
+        return true;
+    }
+    0 < m
+}
+
+// A body, by its tag.
+fn body_number(
+    asked: bool,
+    keys: &[u32; 16],
+    n: usize,
+    near: &[u32; 48],
+    far: &[u32; 48],
+    m: usize,
+    tag: u8,
+    b: &[u8],
+) -> u8
+    ensures { λ r. ⌜ r ≡ bodyBy asked (now (keys .entry)) n (now (near .entry)) (now (far .entry)) m tag (now (b .entry)) ⌝ }
+{
+    if tag == NODE_TAG {
+        let late = node_late(asked, m);
+        return node_body_number(late, keys, n, b);
+    }
+    if tag == LINK_TAG {
+        return link_body_number(asked, keys, n, near, far, m, b);
+    }
+    if tag == QUESTION_TAG {
+        return question_body_number(asked, keys, n, b);
+    }
+    22
+}
+
+// The field that begins at a place.
+pub fn field_number(
+    asked: bool,
+    keys: &[u32; 16],
+    n: usize,
+    near: &[u32; 48],
+    far: &[u32; 48],
+    m: usize,
+    bytes: &[u8],
+    at: usize,
+) -> u8
+    requires { ⌜ at < length (now bytes) ⌝ }
+    ensures { λ r. ⌜ r ≡ fieldBy asked (now (keys .entry)) n (now (near .entry)) (now (far .entry)) m (now (bytes .entry)) at ⌝ }
+{
+    let tag = bytes[at];
+    let total = bytes.len();
+    if total - at < 3 {
+        return 21;
+    }
+    let length = lists::word_at(bytes, at + 1) as usize;
+    let body = at + 3;
+    if total - body < length {
+        return 21;
+    }
+    let next = body + length;
+    body_number(asked, keys, n, near, far, m, tag, &bytes[body..next])
+}
