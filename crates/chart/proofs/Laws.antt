@@ -1,6 +1,6 @@
 -- Laws of the chart's values: what a loop reads at a place, and what a number of 0 says of the value that it lets pass.
 use Prim.Native.Nat.{ℕ, _<_, _≤_}
-use mathlib.Core.Path.{_≡_, sym, ap}
+use mathlib.Core.Path.{_≡_}
 use mathlib.Core.List.{List}
 use mathlib.Core.Bool.{Bool, true, false, not, _&&_}
 use lib.ListN.{length, getD}
@@ -10,13 +10,12 @@ use Rattle.lists.proofs.Places.{element-own}
 use Rattle.lists.proofs.Bools.{or-right, or-neither}
 use Rattle.lists.proofs.Refusals.{pass}
 use Rattle.address.specs.declared.Station.{Station}
-use Rattle.address.specs.declared.Address.{Address}
 use Rattle.address.specs.Address.{stationOf, stationInRange, sameStation}
 use Rattle.chart.specs.declared.ChartNode.{ChartNode}
 use Rattle.chart.specs.declared.Link.{Link}
 use Rattle.chart.specs.declared.Nodes.{Nodes}
 use Rattle.chart.specs.declared.Links.{Links}
-use Rattle.chart.specs.Values.{noNode, noLink, nodeAt, linkAt, strayByte, nodeInRange, linkInRange, standsAt, written, isEnd, endsAt}
+use Rattle.chart.specs.Values.{noNode, noLink, nodeAt, linkAt, strayByte, nodeInRange, linkInRange, written}
 use Rattle.chart.specs.Numbers.{bothWritten, eitherUsed, nodeNumber, linkNumber, questionNumber}
 
 -- ---- what a loop reads at a place
@@ -28,14 +27,6 @@ node-read ns d i h = element-own noNode d (ns .items) i h
 pub link-read : (ls : Links) (d : Link) (i : ℕ) → i < length (ls .items) → getD (ls .items) i d ≡ linkAt ls i
 unfolding linkAt
 link-read ls d i h = element-own noLink d (ls .items) i h
-
-pub stands-read : (ns : Nodes) (s : Station) (d : ChartNode) (i : ℕ) → i < length (ns .items) → standsAt ns s i ≡ sameStation (getD (ns .items) i d .station) s
-unfolding standsAt
-stands-read ns s d i h = ap (λ (n : ChartNode). sameStation (n .station) s) (sym (node-read ns d i h))
-
-pub ends-read : (ls : Links) (e : Address) (d : Link) (i : ℕ) → i < length (ls .items) → endsAt ls e i ≡ isEnd e (getD (ls .items) i d)
-unfolding endsAt
-ends-read ls e d i h = ap (isEnd e) (sym (link-read ls d i h))
 
 module _ (label : List ℕ) (i : ℕ) where
   pub low-stray : getD label i 0 < 32 → strayByte label i ≡ true

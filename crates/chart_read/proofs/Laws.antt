@@ -7,7 +7,7 @@ use native.Mathlib.Omega.{arith}
 use lib.ListN.{length, getD, take, drop}
 use borrow.Author.Tests.{lt-ltb, le-ltb}
 use Rattle.lists.specs.Bytes.{wordAt}
-use Rattle.lists.proofs.Refusals.{refused, taken}
+use Rattle.lists.proofs.Refusals.{taken}
 use Rattle.lists.proofs.Chains.{stops, passes}
 use Rattle.chart_read.specs.Held.{SoFar, Taken}
 use Rattle.chart_read.specs.Fields.{tagAt, bodyAt, pastField}
@@ -15,13 +15,6 @@ use Rattle.chart_read.specs.ByKeys.{bodyBy, fieldBy}
 use Rattle.chart_read.specs.Reading.{nothing, taking, bodyTaken, stepTo, stepOf}
 
 -- ---- a number with what is then held
-
-pub held-none : {k m : ℕ} (s : SoFar) → k ≡ m → (k ≡ 0 → ⊥) → record { number = k; «so_far» = nothing } ≡ taking m s
-unfolding taking
-held-none {k} {m} s e h = rw (← e) (λ i. record { number = k; «so_far» = sym (refused s nothing k h) i })
-
-pub held-refused : (k : ℕ) {m : ℕ} (s : SoFar) → suc k ≡ m → record { number = suc k; «so_far» = nothing } ≡ taking m s
-held-refused k s e = held-none s e (λ z. omega arith)
 
 pub held-taken : {m : ℕ} {s t : SoFar} → 0 ≡ m → t ≡ s → record { number = 0; «so_far» = t } ≡ taking m s
 unfolding taking
@@ -36,10 +29,6 @@ tag-later k e h = rw e h
 -- ---- one field at a place
 
 module _ (s : SoFar) (bytes : List ℕ) (at : ℕ) where
-  pub step-cut : length bytes < pastField bytes at → stepTo (length bytes) (taking 21 nothing) ≡ stepOf s bytes at
-  unfolding stepOf
-  step-cut h = tag-first _ _ (lt-ltb (length bytes) (pastField bytes at) h)
-
   pub step-whole : pastField bytes at ≤ length bytes → stepTo (pastField bytes at) (bodyTaken s (tagAt bytes at) (bodyAt bytes at)) ≡ stepOf s bytes at
   unfolding stepOf
   step-whole h = tag-later _ (le-ltb (length bytes) (pastField bytes at) h) refl

@@ -1,8 +1,7 @@
 -- `chart_image::storing::put_links` meets its contract: the links that are there, and zeros at the places past them.
-use Prim.Native.Nat.{ℕ, _-_, _*_}
+use Prim.Native.Nat.{_-_, _*_, _≤_}
 use mathlib.Core.Path.{sym, _∙_}
 use native.Mathlib.Omega.{arith}
-use lib.ListN.{replicate}
 use lib.Seq.{length-take-le}
 use borrow.Author.Needs.{needs}
 use Rattle.chart_image.proofs.Laws.{links-padded}
@@ -28,7 +27,10 @@ array-share-prefix-zeros : tie.Need-array-share-prefix-zeros
 array-share-prefix-zeros c = search needs
 
 slice-aggregate-put-all : tie.Need-slice-aggregate-put-all
-slice-aggregate-put-all c = sym (length-take-le {A = ℕ} (432 - 9 * c .before .before .before .before .before .before .before .before .args .links .count) (replicate 432 0) (omega arith))
+slice-aggregate-put-all c =
+    let k = 432 - 9 * c .before .before .before .before .before .before .before .before .args .links .count in
+    let h : k ≤ 432 = omega arith in
+    sym (length-take-le k _ h)
 
 put-all-requires : tie.Need-put-all-requires
 put-all-requires c κs = search needs
