@@ -274,7 +274,10 @@ fn main() {
             "none" => {}
             "read" => assert_eq!(read(hidden(&bytes), hidden(&mut image)), 0),
             "write" => assert_eq!(write(hidden(&image), hidden(&mut out)), 0),
-            "net" => assert!(hidden(Chart::read(hidden(&bytes)).ok().and_then(|chart| chart.net())).is_some()),
+            "net" => {
+                assert!(hidden(Chart::read(hidden(&bytes)).ok().and_then(|chart| chart.net()))
+                    .is_some())
+            }
             other => panic!("nothing {other}"),
         }
     }

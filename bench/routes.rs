@@ -1,6 +1,6 @@
 //! All routes of a chart, listed over and over: routes WHO CHART TIMES.
-//! WHO is ours (pz_first, then pz_next until 43), walk (an ordinary exhaustive walk over adjacency lists) or none.
-//! CHART is s, complete7, or drawn1 to drawn3. The number of routes and a sum over their links are printed, the same for both.
+//! WHO is ours (pz_first, then pz_next until 43), walk (an ordinary exhaustive walk over adjacency lists), none, or bytes, which writes the chart.
+//! CHART is s, complete6, complete7, complete8, comb, or drawn1 to drawn20. The number of routes and a sum over their links are printed, the same for both.
 
 extern "C" {
     fn pz_first(chart: *const u8, n: usize, route: *mut u8, m: usize, length: usize) -> u8;
@@ -49,7 +49,8 @@ fn walk(chart: &[u8]) -> Tally {
     while rest.len() >= 3 {
         let size = usize::from(rest[1]) * 256 + usize::from(rest[2]);
         let body = &rest[3..3 + size];
-        let station = |at: usize| (body[at], u16::from(body[at + 1]) * 256 + u16::from(body[at + 2]));
+        let station =
+            |at: usize| (body[at], u16::from(body[at + 1]) * 256 + u16::from(body[at + 2]));
         let place = |station| stations.iter().position(|&one| one == station).unwrap();
         match rest[0] {
             1 => {
@@ -72,7 +73,13 @@ fn walk(chart: &[u8]) -> Tally {
         }
         rest = &rest[3 + size..];
     }
-    let mut search = Search { ways: &ways, to, met: vec![false; stations.len()], path: Vec::new(), tally: Tally::default() };
+    let mut search = Search {
+        ways: &ways,
+        to,
+        met: vec![false; stations.len()],
+        path: Vec::new(),
+        tally: Tally::default(),
+    };
     search.met[from] = true;
     search.go(from);
     search.tally
@@ -104,8 +111,8 @@ impl Search<'_> {
     }
 }
 
-/// The bytes of a chart of nodes 9/1, 9/2, .. without labels, asked from the first to the last.
-fn chart(nodes: u8, links: &[(u8, u8, bool)]) -> Vec<u8> {
+/// The bytes of a chart of nodes 9/1, 9/2, .. without labels, asked from the first to another.
+fn chart(nodes: u8, to: u8, links: &[(u8, u8, bool)]) -> Vec<u8> {
     let mut bytes = Vec::new();
     for node in 1..=nodes {
         bytes.extend([1, 0, 3, 9, 0, node]);
@@ -117,13 +124,27 @@ fn chart(nodes: u8, links: &[(u8, u8, bool)]) -> Vec<u8> {
         let (p, q) = (ports[usize::from(a)], ports[usize::from(b)]);
         bytes.extend([2, 0, 9, 9, 0, a, p, 9, 0, b, q, u8::from(on)]);
     }
-    bytes.extend([3, 0, 6, 9, 0, 1, 9, 0, nodes]);
+    bytes.extend([3, 0, 6, 9, 0, 1, 9, 0, to]);
     bytes
 }
 
 fn complete(nodes: u8) -> Vec<u8> {
-    let pairs = (1..=nodes).flat_map(|a| (a + 1..=nodes).map(move |b| (a, b, true)));
-    chart(nodes, &pairs.collect::<Vec<_>>())
+    chart(nodes, nodes, &pairs(1, nodes))
+}
+
+/// Each two of the nodes from one to another, joined.
+fn pairs(first: u8, last: u8) -> Vec<(u8, u8, bool)> {
+    (first..=last).flat_map(|a| (a + 1..=last).map(move |b| (a, b, true))).collect()
+}
+
+/// A ladder of eight nodes, asked from its one end to its other, and seven more nodes that lead nowhere: each joined to each other, and one of them to the
+/// ladder's second node.
+fn comb() -> Vec<u8> {
+    let mut links = vec![(2, 9, true)];
+    links.extend(pairs(9, 15));
+    links.extend((1..=6).map(|a| (a, a + 2, true)));
+    links.extend([1, 3, 5, 7].map(|a| (a, a + 1, true)));
+    chart(15, 8, &links)
 }
 
 /// A drawn chart: so many nodes and links, one link in eight off, from a fixed seed.
@@ -141,19 +162,26 @@ fn drawn(seed: u64, nodes: u8, links: usize) -> Vec<u8> {
             list.push((a, b, below(8) != 0));
         }
     }
-    chart(nodes, &list)
+    chart(nodes, nodes, &list)
 }
 
 fn main() {
     let words: Vec<String> = std::env::args().collect();
     let chart = match words[2].as_str() {
         "s" => include_bytes!("../charts/s.chart").to_vec(),
+        "complete6" => complete(6),
         "complete7" => complete(7),
-        "drawn1" => drawn(1, 8, 16),
-        "drawn2" => drawn(2, 10, 20),
-        "drawn3" => drawn(3, 12, 24),
-        other => panic!("no chart {other}"),
+        "complete8" => complete(8),
+        "comb" => comb(),
+        other => match other.strip_prefix("drawn").and_then(|number| number.parse::<u64>().ok()) {
+            Some(seed) => drawn(seed, 6 + (2 * seed % 7) as u8, 12 + (seed % 7) as usize * 2),
+            None => panic!("no chart {other}"),
+        },
     };
+    if words[1] == "bytes" {
+        std::io::Write::write_all(&mut std::io::stdout(), &chart).expect("a chart written");
+        return;
+    }
     // A pointer that is known only when the program runs: no call can be left out.
     let list: fn(&[u8]) -> Tally = match words[1].as_str() {
         "ours" => ours,
