@@ -5,6 +5,7 @@ mod charts;
 mod frames;
 mod ledgers;
 mod script;
+mod sheets;
 mod tables;
 mod traces;
 
@@ -33,7 +34,7 @@ fn answer_ledger(letter: u8, v: &[u16; 64]) {
     }
 }
 
-// Charts and their routes.
+// Charts, their routes and their sheets.
 fn answer_chart(letter: u8, v: &[u16; 64]) {
     match letter {
         b'c' => charts::read(v),
@@ -42,6 +43,8 @@ fn answer_chart(letter: u8, v: &[u16; 64]) {
         b'V' => charts::write_built(v),
         b'1' => traces::first(v),
         b'2' => traces::next(v),
+        b's' => sheets::zeros(v),
+        b'S' => sheets::thousand(v),
         _ => {}
     }
 }
