@@ -281,4 +281,9 @@ fn main() {
             other => panic!("nothing {other}"),
         }
     }
+    println!("{} {}", sum_of(&image), sum_of(&out));
+}
+
+fn sum_of(bytes: &[u8]) -> u64 {
+    bytes.iter().fold(0, |sum: u64, &byte| sum.wrapping_mul(31).wrapping_add(u64::from(byte)))
 }

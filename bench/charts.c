@@ -1,5 +1,6 @@
 /* One call of the door on a chart, made over and over: charts CALL FILE TIMES.
-   CALL is none, read, write, first, or short (first with a buffer of 14 bytes: all that comes before the search). */
+   CALL is none, read, write, first, or short (first with a buffer of 14 bytes: all that comes before the search). The chart is read and written
+   once before that. A sum over its image and one over the bytes written are printed, as the ordinary program prints them. */
 #include <stdio.h>
 #include <stdlib.h>
 #include <string.h>
@@ -7,6 +8,14 @@
 #include "poztecameh.h"
 
 static uint8_t chart[4096], image[PZ_CHART_IMAGE_SIZE], bytes[4096], route[PZ_ROUTE_SIZE];
+
+static uint64_t sum_of(const uint8_t *bytes, size_t n)
+{
+    uint64_t sum = 0;
+    for (size_t i = 0; i < n; i++)
+        sum = sum * 31 + bytes[i];
+    return sum;
+}
 
 int main(int count, char **words)
 {
@@ -16,17 +25,20 @@ int main(int count, char **words)
     size_t n = fread(chart, 1, sizeof chart, file);
     const char *call = words[1];
     uint16_t place, written;
-    unsigned sum = pz_chart_read(chart, n, image, sizeof image, &place);
+    if (pz_chart_read(chart, n, image, sizeof image, &place) != 0 ||
+        pz_chart_write(image, sizeof image, bytes, sizeof bytes, &written) != 0)
+        return 1;
+    unsigned last = 0;
     for (int times = atoi(words[3]); times > 0; times--) {
         if (strcmp(call, "read") == 0)
-            sum += pz_chart_read(chart, n, image, sizeof image, &place);
+            last = pz_chart_read(chart, n, image, sizeof image, &place);
         else if (strcmp(call, "write") == 0)
-            sum += pz_chart_write(image, sizeof image, bytes, sizeof bytes, &written);
+            last = pz_chart_write(image, sizeof image, bytes, sizeof bytes, &written);
         else if (strcmp(call, "first") == 0)
-            sum += pz_first(chart, n, route, sizeof route, 0);
+            last = pz_first(chart, n, route, sizeof route, 0) > PZ_ROUTE_SIZE;
         else if (strcmp(call, "short") == 0)
-            sum += pz_first(chart, n, route, sizeof route - 1, 0);
+            last = pz_first(chart, n, route, sizeof route - 1, 0) != 42;
     }
-    printf("%u\n", sum);
-    return 0;
+    printf("%llu %llu\n", (unsigned long long)sum_of(image, sizeof image), (unsigned long long)sum_of(bytes, sizeof bytes));
+    return last != 0;
 }
