@@ -1,8 +1,7 @@
-// Addresses (3.2): three kinds of number that are never mixed, the station and the address made of them, and an address's three bytes on the wire
-// (<comms_address>, appendix A).
+// Addresses (3.2): three kinds of number that are never mixed, the station and the address made of them. Its bytes are written and read by `packing` and
+// `wide`.
 ghost use mathlib.Core.Path.{_≡_};
-ghost use Prim.Native.Nat.{_+_, _*_, _/_};
-ghost use Rattle.address.specs.Address.{stationOf, stationInRange, inRange, sameStation, sameAddress, packOf, unpackAt, keyOf};
+ghost use Rattle.address.specs.Address.{stationOf, stationInRange, inRange, sameStation, sameAddress};
 
 pub const LARGEST_BRIGADE: u8 = 255;
 
@@ -80,50 +79,4 @@ pub fn same_address(a: Address, b: Address) -> bool
         return false;
     }
     a.port.0 == b.port.0
-}
-
-// The three bytes of an address; of a node or a port out of range, the low bits.
-pub fn pack(a: Address) -> [u8; 3]
-    ensures { λ r. ⌜ r ≡ packOf a ⌝ }
-{
-    let b = a.brigade;
-    let n = a.node.0;
-    let p = a.port.0;
-    [b, (n / 4 % 256) as u8, (n % 4 * 64) as u8 + p % 64]
-}
-
-fn join(high: u8, low: u8) -> u16
-    ensures { λ r. ⌜ r ≡ high * 4 + low / 64 ⌝ }
-{
-    high as u16 * 4 + low as u16 / 64
-}
-
-// The address whose three bytes begin at a place of s; a byte past the end counts as 0.
-pub fn unpack(s: &[u8], at: usize) -> Address
-    ensures { λ r. ⌜ r ≡ unpackAt (now (s .entry)) at ⌝ }
-{
-    if s.len() <= at {
-        return Address {
-            brigade: 0,
-            node: Node(0),
-            port: Port(0),
-        };
-    }
-    let high = lists::byte_at(s, at + 1);
-    let low = lists::byte_at(s, at + 2);
-    Address {
-        brigade: s[at],
-        node: Node(join(high, low)),
-        port: Port(low % 64),
-    }
-}
-
-// The 24 bits of an address as one number: two addresses in range are one exactly if their keys are.
-pub fn key(a: Address) -> u32
-    ensures { λ r. ⌜ r ≡ keyOf a ⌝ }
-{
-    let b = a.brigade;
-    let n = a.node.0;
-    let p = a.port.0;
-    b as u32 * 65536 + n as u32 * 64 + p as u32
 }

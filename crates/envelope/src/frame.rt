@@ -7,7 +7,7 @@ ghost use Rattle.envelope.specs.Frame.{destinationAt, checkOf};
 pub fn destination(part: &[u8], place: u8) -> Address
     ensures { λ r. ⌜ r ≡ destinationAt (now (part .entry)) place ⌝ }
 {
-    address::unpack(part, 3 * (place as usize))
+    packing::unpack(part, 3 * (place as usize))
 }
 
 // The check character of some bytes: the exclusive or of them all.

@@ -12,7 +12,7 @@ ghost use Rattle.envelope.specs.Refusal.{frameRefusal};
 pub fn fields(frame: &[u8]) -> Fixed
     ensures { λ r. ⌜ r ≡ fieldsOf (now (frame .entry)) ⌝ }
 {
-    let source = address::unpack(frame, 0);
+    let source = packing::unpack(frame, 0);
     let w = lists::word_at(frame, 3);
     let prot = 5 + 3 * ((w % 64) as usize);
     let p = lists::byte_at(frame, prot);
@@ -61,7 +61,7 @@ pub fn keys_in(part: &[u8], n: usize) -> [u32; 63]
     let mut keys = [0u32; 63];
     let mut i = 0;
     while i < n {
-        keys[i] = address::key(envelope::destination(part, i as u8));
+        keys[i] = packing::key(envelope::destination(part, i as u8));
         i += 1;
     }
     keys

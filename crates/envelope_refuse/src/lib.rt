@@ -50,7 +50,7 @@ fn keys_of(places: [Address; 63], n: usize) -> [u32; 63]
     let mut i = 0;
     while i < n {
         let a = places[i];
-        keys[i] = address::key(a);
+        keys[i] = packing::key(a);
         i += 1;
     }
     keys

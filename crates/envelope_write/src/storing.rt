@@ -18,7 +18,7 @@ fn put_places(out: &mut [u8], at: usize, places: [Address; 63], n: usize)
     let mut i = 0;
     while i < n {
         let a = places[i];
-        let b = address::pack(a);
+        let b = packing::pack(a);
         lists::put_all(out, at + 3 * i, &b);
         i += 1;
     }
@@ -28,7 +28,7 @@ fn head_bytes(e: Fixed, n: usize) -> [u8; 5]
     requires { ⌜ (e .count ≤ 63) × (n ≤ 1023) ⌝ }
     ensures { λ r. ⌜ r ≡ headOf e n ⌝ }
 {
-    let s = address::pack(e.source);
+    let s = packing::pack(e.source);
     let w = n * 64 + e.count as usize;
     [s[0], s[1], s[2], (w / 256) as u8, (w % 256) as u8]
 }

@@ -18,8 +18,8 @@ fn right_key(g: Leg) -> u64
     if !is_open(s) {
         return 0;
     }
-    let from = address::key(g.source) as u64;
-    let to = address::key(g.destination) as u64;
+    let from = packing::key(g.source) as u64;
+    let to = packing::key(g.destination) as u64;
     let n = g.seq.0 as u64;
     from * 549755813888 + to * 32768 + n + 1
 }

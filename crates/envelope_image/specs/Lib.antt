@@ -1,2 +1,0 @@
-pub mod Envelope
-pub mod Promises
