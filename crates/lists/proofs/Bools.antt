@@ -72,11 +72,6 @@ or-neither-of x y h = (or-no-left x y h, or-no-right x y h)
 pub or-neither : {x y : Bool} → x ≡ false → y ≡ false → (x || y) ≡ false
 or-neither p q = rw (p, q)
 
--- what holds only where another thing does fails where that fails
-pub fails-with : (x y : Bool) → (y ≡ true → x ≡ true) → x ≡ false → y ≡ false
-fails-with x false f h = refl
-fails-with x true f h = sym (f refl) ∙ h
-
 pub not-no : {x : Bool} → x ≡ false → not x ≡ true
 not-no p = rw p
 
