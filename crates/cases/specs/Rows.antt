@@ -6,11 +6,11 @@ use Rattle.route.specs.declared.Choice.the-variants.{Local, Out, Refused}
 use Rattle.ledger.specs.declared.Standing.the-variants.{Open, Acknowledged, TimedOut}
 use Rattle.answer.specs.declared.Reply.the-variants.{Ack}
 use Rattle.ledger_laws.specs.Calls.{answering, ticking}
-use Rattle.chart.specs.Sample.{S}
+use Rattle.chart.specs.Sample.{S, bytesS}
 use Rattle.chart_read.specs.Reading.{refusedAt}
 use Rattle.search.specs.declared.Traced.the-variants.{Refused as NoRoute}
 use Rattle.cases.specs.Questions.{Asked, reading, listing, following, choosing, calling, Returned, Back, read, listed, told, chosen, called, lent, answerTo}
-use Rattle.cases.specs.Values.{port, seq, at, bytesS, off, to, T, two, one}
+use Rattle.cases.specs.Values.{port, seq, at, off, to, T, two, one}
 
 -- what is asked, and what must come back
 pub record Case : Type 0 where

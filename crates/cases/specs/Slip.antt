@@ -7,10 +7,10 @@ use Rattle.lists.specs.Places.{firstBelow}
 use Rattle.chart.specs.declared.Nodes.{Nodes}
 use Rattle.chart.specs.declared.Chart.{Chart}
 use Rattle.chart.specs.Values.{nodeAt}
+use Rattle.chart.specs.Sample.{bytesS}
 use Rattle.routes.specs.All.{allRoutes, sameLinks}
 use Rattle.chart_net.specs.Net.{placeIn, farIn, start, routesOf}
 use Rattle.cases.specs.Questions.{chartIn}
-use Rattle.cases.specs.Values.{bytesS}
 
 -- the first node with the label of the node at a place
 abbrev pub labelPlace : Nodes → ℕ → ℕ

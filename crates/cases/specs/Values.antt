@@ -1,9 +1,8 @@
--- The values that document 01's cases speak of: the chart S in bytes and its variants, the table T, and two ledgers.
+-- The values that document 01's cases speak of: the variants of the chart S, the table T, and two ledgers.
 use Prim.Native.Nat.{ℕ, _+_, _*_}
 use mathlib.Core.Bool.{true, false}
-use mathlib.Core.List.{List, [], _∷_, _++_}
+use mathlib.Core.List.{List, _∷_}
 use lib.ListN.{replicate, set}
-use Rattle.address.specs.declared.Node.{Node}
 use Rattle.address.specs.declared.Port.{Port}
 use Rattle.address.specs.declared.Seq.{Seq}
 use Rattle.address.specs.declared.Address.{Address}
@@ -11,7 +10,7 @@ use Rattle.route.specs.declared.Target.the-variants.{One, Brigade, Everything}
 use Rattle.route.specs.declared.Table.{Table}
 use Rattle.route.specs.Route.{noEntry}
 use Rattle.ledger.specs.declared.Standing.{Standing}
-use Rattle.ledger.specs.declared.Standing.the-variants.{Open, Acknowledged, TimedOut}
+use Rattle.ledger.specs.declared.Standing.the-variants.{Open}
 use Rattle.ledger.specs.declared.Leg.{Leg}
 use Rattle.ledger.specs.declared.Ledger.{Ledger}
 use Rattle.ledger.specs.Rules.{noLeg}
@@ -26,35 +25,7 @@ seq n = record { 0 = n }
 abbrev pub at : ℕ → ℕ → ℕ → Address
 at b n p = record { brigade = b; node = record { 0 = n }; port = port p }
 
--- ---- the chart S
-
--- four nodes; the second and the third have one label, Hill
-abbrev pub nodesS : List ℕ
-nodesS =
-    1 ∷ 0 ∷ 10 ∷ 9 ∷ 0 ∷ 1 ∷ 67 ∷ 111 ∷ 110 ∷ 116 ∷ 114 ∷ 111 ∷ 108
-    ∷ 1 ∷ 0 ∷ 7 ∷ 9 ∷ 0 ∷ 20 ∷ 72 ∷ 105 ∷ 108 ∷ 108
-    ∷ 1 ∷ 0 ∷ 7 ∷ 9 ∷ 0 ∷ 21 ∷ 72 ∷ 105 ∷ 108 ∷ 108
-    ∷ 1 ∷ 0 ∷ 7 ∷ 9 ∷ 0 ∷ 30 ∷ 81 ∷ 117 ∷ 97 ∷ 121
-    ∷ []
-
--- six links, the last one off
-abbrev pub linksS : List ℕ
-linksS =
-    2 ∷ 0 ∷ 9 ∷ 9 ∷ 0 ∷ 1 ∷ 2 ∷ 9 ∷ 0 ∷ 20 ∷ 1 ∷ 1
-    ∷ 2 ∷ 0 ∷ 9 ∷ 9 ∷ 0 ∷ 1 ∷ 3 ∷ 9 ∷ 0 ∷ 21 ∷ 1 ∷ 1
-    ∷ 2 ∷ 0 ∷ 9 ∷ 9 ∷ 0 ∷ 20 ∷ 2 ∷ 9 ∷ 0 ∷ 30 ∷ 1 ∷ 1
-    ∷ 2 ∷ 0 ∷ 9 ∷ 9 ∷ 0 ∷ 21 ∷ 2 ∷ 9 ∷ 0 ∷ 30 ∷ 2 ∷ 1
-    ∷ 2 ∷ 0 ∷ 9 ∷ 9 ∷ 0 ∷ 20 ∷ 3 ∷ 9 ∷ 0 ∷ 21 ∷ 3 ∷ 1
-    ∷ 2 ∷ 0 ∷ 9 ∷ 9 ∷ 0 ∷ 1 ∷ 4 ∷ 9 ∷ 0 ∷ 30 ∷ 3 ∷ 0
-    ∷ []
-
--- from 9/1 to 9/30
-abbrev pub questionS : List ℕ
-questionS = 3 ∷ 0 ∷ 6 ∷ 9 ∷ 0 ∷ 1 ∷ 9 ∷ 0 ∷ 30 ∷ []
-
--- all of it
-unfoldable pub bytesS : List ℕ
-bytesS = nodesS ++ linksS ++ questionS
+-- ---- variants of the bytes of S
 
 -- a link's last byte, 0 for off: the nodes have 43 bytes, and a link's field 12
 abbrev pub off : ℕ → List ℕ → List ℕ

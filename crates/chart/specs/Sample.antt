@@ -1,4 +1,4 @@
--- The chart S of document 01 ("The printed sheet", "Cases at the edges"), as values, and its variants of the P cases.
+-- The chart S of document 01 ("The printed sheet", "Cases at the edges"), as bytes and as values.
 use Prim.Native.Nat.{ℕ, _-_}
 use mathlib.Core.List.{List, [], _∷_, _++_}
 use mathlib.Core.Bool.{Bool, true, false}
@@ -36,19 +36,31 @@ hill = 72 ∷ 105 ∷ 108 ∷ 108 ∷ []
 abbrev pub quay : List ℕ
 quay = 81 ∷ 117 ∷ 97 ∷ 121 ∷ []
 
--- links 0 and 1 on or off, link 4 on or off, asked from 9/1 to 9/t
-unfoldable pub sample : Bool → Bool → ℕ → Chart
-sample first fourth t =
+-- S itself
+unfoldable pub S : Chart
+S =
     record {
       nodes = record { count = 4; items = nodeS 1 control ∷ nodeS 20 hill ∷ nodeS 21 hill ∷ nodeS 30 quay ∷ replicate 12 noNode };
       links = record {
         count = 6;
-        items = linkS 1 2 20 1 first ∷ linkS 1 3 21 1 first ∷ linkS 20 2 30 1 true ∷ linkS 21 2 30 2 true ∷ linkS 20 3 21 3 fourth ∷ linkS 1 4 30 3 false ∷ replicate 42 noLink;
+        items = linkS 1 2 20 1 true ∷ linkS 1 3 21 1 true ∷ linkS 20 2 30 1 true ∷ linkS 21 2 30 2 true ∷ linkS 20 3 21 3 true ∷ linkS 1 4 30 3 false ∷ replicate 42 noLink;
       };
       from = stationS 1;
-      to = stationS t;
+      to = stationS 30;
     }
 
--- the chart S itself
-abbrev pub S : Chart
-S = sample true true 30
+-- its bytes: four nodes, of which the second and the third have one label, Hill; six links, the last one off; the question, from 9/1 to 9/30
+unfoldable pub bytesS : List ℕ
+bytesS =
+    1 ∷ 0 ∷ 10 ∷ 9 ∷ 0 ∷ 1 ∷ 67 ∷ 111 ∷ 110 ∷ 116 ∷ 114 ∷ 111 ∷ 108 ∷
+    1 ∷ 0 ∷ 7 ∷ 9 ∷ 0 ∷ 20 ∷ 72 ∷ 105 ∷ 108 ∷ 108 ∷
+    1 ∷ 0 ∷ 7 ∷ 9 ∷ 0 ∷ 21 ∷ 72 ∷ 105 ∷ 108 ∷ 108 ∷
+    1 ∷ 0 ∷ 7 ∷ 9 ∷ 0 ∷ 30 ∷ 81 ∷ 117 ∷ 97 ∷ 121 ∷
+    2 ∷ 0 ∷ 9 ∷ 9 ∷ 0 ∷ 1 ∷ 2 ∷ 9 ∷ 0 ∷ 20 ∷ 1 ∷ 1 ∷
+    2 ∷ 0 ∷ 9 ∷ 9 ∷ 0 ∷ 1 ∷ 3 ∷ 9 ∷ 0 ∷ 21 ∷ 1 ∷ 1 ∷
+    2 ∷ 0 ∷ 9 ∷ 9 ∷ 0 ∷ 20 ∷ 2 ∷ 9 ∷ 0 ∷ 30 ∷ 1 ∷ 1 ∷
+    2 ∷ 0 ∷ 9 ∷ 9 ∷ 0 ∷ 21 ∷ 2 ∷ 9 ∷ 0 ∷ 30 ∷ 2 ∷ 1 ∷
+    2 ∷ 0 ∷ 9 ∷ 9 ∷ 0 ∷ 20 ∷ 3 ∷ 9 ∷ 0 ∷ 21 ∷ 3 ∷ 1 ∷
+    2 ∷ 0 ∷ 9 ∷ 9 ∷ 0 ∷ 1 ∷ 4 ∷ 9 ∷ 0 ∷ 30 ∷ 3 ∷ 0 ∷
+    3 ∷ 0 ∷ 6 ∷ 9 ∷ 0 ∷ 1 ∷ 9 ∷ 0 ∷ 30 ∷
+    []

@@ -47,15 +47,9 @@ pub record KeysOf (ns : Nodes) (keys : List ℕ) : Type 0 where
 abbrev pub KeyedNodes : Nodes → List ℕ → Type 0
 KeyedNodes ns keys = (i : ℕ) → i < ns .count → StationKeyed (nodeAt ns i .station) (getD keys i 0)
 
-abbrev pub NearKeys : Links → List ℕ → Type 0
-NearKeys ls near = (i : ℕ) → i < ls .count → EndKeyed (linkAt ls i .a) (getD near i 0)
-
-abbrev pub FarKeys : Links → List ℕ → Type 0
-FarKeys ls far = (i : ℕ) → i < ls .count → EndKeyed (linkAt ls i .b) (getD far i 0)
-
 pub record KeyedLinks (ls : Links) (near far : List ℕ) : Type 0 where
-  pub a : NearKeys ls near
-  pub b : FarKeys ls far
+  pub a : (i : ℕ) → i < ls .count → EndKeyed (linkAt ls i .a) (getD near i 0)
+  pub b : (i : ℕ) → i < ls .count → EndKeyed (linkAt ls i .b) (getD far i 0)
 
 -- ---- what is written, by keys
 

@@ -25,7 +25,7 @@ use Rattle.search.specs.declared.Far.the-variants.{Node, None}
 use Rattle.search.specs.Net.{nodePlace, otherOf, farOf, nodeOf, net}
 use Rattle.search.specs.Answers.{routesIn}
 use Rattle.search.proofs.Leading.{far-in, sound}
-use Rattle.chart_write.specs.Numbers.{Accepted}
+use Rattle.chart_write.specs.Promises.{Accepted}
 use Rattle.chart_net.specs.Net.{stationAt, placeIn, crossed, across, placed, farIn, chartNet, start, routesOf}
 use Rattle.chart_net.specs.Arrays.{placeFor, endPlaces, endPlacesAt, wayOf, wayAt, endsFor, waysFor, routesKept}
 use Rattle.chart_net.proofs.Places.{place-written, place-few, at-place}

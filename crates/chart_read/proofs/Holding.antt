@@ -1,11 +1,10 @@
 -- What the reader's loop keeps: the walk from here is the whole reading, and the keys are those of the nodes and links that are held.
 use Prim.Native.Nat.{ℕ, _+_, _-_, _<_, _≤_}
-use mathlib.Core.Path.{_≡_, refl, sym, ap, ap₂, subst, _∙_}
+use mathlib.Core.Path.{_≡_, refl, sym, ap, subst, _∙_}
 use mathlib.Core.List.{List}
 use mathlib.Core.Bool.{Bool, true, false}
 use native.Mathlib.Omega.{arith}
-use lib.ListN.{length, getD, set, take, drop, replicate, length-set, length-replicate}
-use lib.Dec.{eqb}
+use lib.ListN.{length, set, take, drop, replicate, length-set}
 use borrow.Author.Tests.{eq-eqb, ne-eqb}
 use Rattle.lists.specs.Bytes.{Bytes, wordAt}
 use Rattle.address.specs.declared.Station.{Station}
@@ -18,8 +17,7 @@ use Rattle.chart.specs.Numbers.{nodeNumber, linkNumber}
 use Rattle.chart_keys.specs.Keys.{StationKeyed, EndKeyed, KeyedNodes, KeyedLinks}
 use Rattle.chart.proofs.Laws.{node-passed, link-passed}
 use Rattle.chart_keys.proofs.ByKeys.{keyed-node, keyed-link}
-use Rattle.chart_read.specs.declared.ChartRead.{ChartRead}
-use Rattle.chart_read.specs.Held.{SoFar, Step}
+use Rattle.chart_read.specs.Held.{SoFar}
 use Rattle.chart_read.specs.Fields.{tagAt, bodyAt, pastField, nodeIn, linkIn}
 use Rattle.chart_read.specs.Reading.{nothing, nodeLate, withNode, withLink, withQuestion, stepOf, refusedAt, chartReadOf}
 use Rattle.chart_read.specs.ByKeys.{fieldBy}

@@ -1,8 +1,8 @@
 -- A field's number by keys is the number that the reader's definitions give; and what a number of 0 says of the field.
-use Prim.Native.Nat.{ℕ, _+_, _*_, _<_, _≤_}
-use mathlib.Core.Path.{_≡_, refl, sym, ap, ap₂, _∙_}
+use Prim.Native.Nat.{ℕ, _+_, _≤_}
+use mathlib.Core.Path.{_≡_, refl, sym, ap, _∙_}
 use mathlib.Core.List.{List}
-use mathlib.Core.Bool.{Bool, true, false, not, cond, _||_}
+use mathlib.Core.Bool.{Bool, true, false, not, cond}
 use native.Mathlib.Omega.{arith}
 use lib.ListN.{length, getD}
 use lib.Dec.{ltb, eqb}
@@ -10,10 +10,9 @@ use borrow.Author.Tests.{ltb-false, eqb-true, not-false}
 use Rattle.lists.specs.Bytes.{Bytes, wordAt}
 use Rattle.lists.specs.Refusals.{refuse}
 use Rattle.lists.proofs.Refusals.{pass}
-use Rattle.address.specs.Address.{stationOf}
 use Rattle.address.specs.Wide.{stationIn, addressIn}
-use Rattle.chart_keys.specs.Keys.{endKey, EndKeyed, KeyedNodes, KeyedLinks, known, bothKnown, eitherBy, nodeBy, linkBy, questionBy}
-use Rattle.chart.specs.Numbers.{nodeNumber, linkNumber, questionNumber}
+use Rattle.chart_keys.specs.Keys.{endKey, EndKeyed, KeyedNodes, KeyedLinks}
+use Rattle.chart.specs.Numbers.{nodeNumber, linkNumber}
 use Rattle.chart_keys.proofs.ByKeys.{node-keyed, link-keyed, question-keyed}
 use Rattle.chart_read.specs.Held.{SoFar, Taken, Step}
 use Rattle.chart_read.specs.Fields.{tagAt, bodyAt, pastField, cutShort, nodeIn, linkIn}

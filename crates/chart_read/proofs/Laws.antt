@@ -1,6 +1,6 @@
 -- Laws of the reader's definitions, over plain values: a number with what is then held, and one field at a place.
-use Prim.Native.Nat.{ℕ, suc, _+_, _-_, _<_, _≤_}
-use mathlib.Core.Path.{_≡_, refl, sym, ap, ap₂, _∙_}
+use Prim.Native.Nat.{ℕ, _+_, _-_, _<_, _≤_}
+use mathlib.Core.Path.{_≡_, refl, sym, ap, _∙_}
 use mathlib.Core.List.{List}
 use mathlib.Core.Bool.{Bool, true, false, cond}
 use native.Mathlib.Omega.{arith}
@@ -9,7 +9,7 @@ use borrow.Author.Tests.{lt-ltb, le-ltb}
 use Rattle.lists.specs.Bytes.{wordAt}
 use Rattle.lists.proofs.Refusals.{taken}
 use Rattle.lists.proofs.Chains.{stops, passes}
-use Rattle.chart_read.specs.Held.{SoFar, Taken}
+use Rattle.chart_read.specs.Held.{SoFar}
 use Rattle.chart_read.specs.Fields.{tagAt, bodyAt, pastField}
 use Rattle.chart_read.specs.ByKeys.{bodyBy, fieldBy}
 use Rattle.chart_read.specs.Reading.{nothing, taking, bodyTaken, stepTo, stepOf}

@@ -9,7 +9,8 @@ use Rattle.chart.specs.declared.Chart.{Chart}
 use Rattle.chart.specs.Values.{linkAt, written}
 use Rattle.chart.specs.Numbers.{bothWritten}
 use Rattle.chart.proofs.Laws.{question-passed}
-use Rattle.chart_write.specs.Numbers.{chartNumber, Accepted}
+use Rattle.chart_write.specs.Numbers.{chartNumber}
+use Rattle.chart_write.specs.Promises.{Accepted}
 use Rattle.chart_write.proofs.Laws.{passed, node-of, link-of}
 
 pub both-of : (ns : Nodes) (s t : Station) → bothWritten ns s t ≡ true → (written ns s ≡ true) × (written ns t ≡ true)

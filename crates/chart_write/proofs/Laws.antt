@@ -28,7 +28,7 @@ use Rattle.chart.specs.declared.Nodes.{Nodes}
 use Rattle.chart.specs.declared.Links.{Links}
 use Rattle.chart.specs.declared.Chart.{Chart}
 use Rattle.chart.specs.Values.{nodeAt, linkAt}
-use Rattle.chart.specs.Numbers.{nodeNumber, linkNumber, questionNumber}
+use Rattle.chart.specs.Numbers.{questionNumber}
 use Rattle.chart_keys.specs.Keys.{KeyedNodes, KeyedLinks, known, bothKnown, eitherBy, nodeBy, linkBy}
 use Rattle.chart_keys.proofs.ByKeys.{node-keyed, link-keyed}
 use Rattle.chart.proofs.Laws.{node-read, link-read, NodePassed, node-passed, LinkPassed, link-passed}

@@ -1,15 +1,13 @@
 -- The number of a chart given as values (document 01, "The chart"): the counts first, then the number of the first bad value. 0 where it is accepted.
-use Prim.Native.Nat.{ℕ, _≤_, _<_}
-use mathlib.Core.Path.{_≡_}
-use mathlib.Core.Bool.{true, false}
+use Prim.Native.Nat.{ℕ}
+use mathlib.Core.Bool.{false}
 use lib.Dec.{ltb}
 use Rattle.lists.specs.Refusals.{refuse, orElse}
 use Rattle.lists.specs.Chains.{firstNumber}
-use Rattle.address.specs.Address.{stationOf, sameStation}
 use Rattle.chart.specs.declared.Nodes.{Nodes}
 use Rattle.chart.specs.declared.Links.{Links}
 use Rattle.chart.specs.declared.Chart.{Chart}
-use Rattle.chart.specs.Values.{mostNodes, mostLinks, nodeAt, linkAt, written}
+use Rattle.chart.specs.Values.{mostNodes, mostLinks, nodeAt, linkAt}
 use Rattle.chart.specs.Numbers.{nodeNumber, linkNumber, questionNumber}
 
 -- the nodes before a place, and the links before one
@@ -40,20 +38,3 @@ chartNumber c =
     refuse 26 (ltb mostNodes (c .nodes .count))
     (refuse 26 (ltb mostLinks (c .links .count))
     (valuesNumber c))
-
--- ---- what an accepted chart is
-
--- both ends of a link stand at nodes of the chart, and at two different ones
-pub record Joins (ns : Nodes) (ls : Links) (i : ℕ) : Type 0 where
-  pub a : written ns (stationOf (linkAt ls i .a)) ≡ true
-  pub b : written ns (stationOf (linkAt ls i .b)) ≡ true
-  pub apart : sameStation (stationOf (linkAt ls i .a)) (stationOf (linkAt ls i .b)) ≡ false
-
--- few enough, no node at the station of one before it, each end and both stations of the question written
-pub record Accepted (c : Chart) : Type 0 where
-  pub few-nodes : c .nodes .count ≤ mostNodes
-  pub few-links : c .links .count ≤ mostLinks
-  pub once : (i : ℕ) → i < c .nodes .count → written (nodesBefore (c .nodes) i) (nodeAt (c .nodes) i .station) ≡ false
-  pub joins : (i : ℕ) → i < c .links .count → Joins (c .nodes) (c .links) i
-  pub from : written (c .nodes) (c .from) ≡ true
-  pub to : written (c .nodes) (c .to) ≡ true

@@ -2,16 +2,18 @@
 use Prim.Native.Nat.{ℕ, _<_, _≤_}
 use mathlib.Core.Path.{_≡_}
 use mathlib.Core.List.{List, [], _∷_, _++_}
-use mathlib.Core.Bool.{false}
+use mathlib.Core.Bool.{true, false}
 use lib.ListN.{length, take, drop, replicate}
 use Rattle.lists.specs.Places.{anyBelow, row}
 use Rattle.lists.specs.declared.Written.the-variants.{Wrote}
+use Rattle.address.specs.Address.{stationOf, sameStation}
 use Rattle.chart.specs.declared.ChartNode.{ChartNode}
 use Rattle.chart.specs.declared.Nodes.{Nodes}
+use Rattle.chart.specs.declared.Links.{Links}
 use Rattle.chart.specs.declared.Chart.{Chart}
-use Rattle.chart.specs.Values.{mostNodes, mostLinks, longestLabel, noNode, nodeAt, strayByte}
+use Rattle.chart.specs.Values.{mostNodes, mostLinks, longestLabel, noNode, nodeAt, linkAt, strayByte, written}
 use Rattle.chart_read.specs.Reading.{chartReadOf}
-use Rattle.chart_write.specs.Numbers.{chartNumber}
+use Rattle.chart_write.specs.Numbers.{nodesBefore, chartNumber}
 use Rattle.chart_write.specs.Writing.{chartBytes, chartWriteOf, chartAfter, tidy}
 
 -- the longest chart: 16 nodes of 30 bytes, 48 links of 12, a question of 9
@@ -41,6 +43,23 @@ chartReaderNumbers = 0 ∷ 21 ∷ 22 ∷ 23 ∷ 24 ∷ 25 ∷ 26 ∷ 27 ∷ 28 �
 -- the numbers that the writer gives. Not 21, 22, 25 and 31: it works from values, and puts the fields in order itself
 abbrev pub chartWriterNumbers : List ℕ
 chartWriterNumbers = 0 ∷ 10 ∷ 23 ∷ 24 ∷ 26 ∷ 27 ∷ 28 ∷ 29 ∷ 30 ∷ []
+
+-- ---- what an accepted chart is
+
+-- both ends of a link stand at nodes of the chart, and at two different ones
+pub record Joins (ns : Nodes) (ls : Links) (i : ℕ) : Type 0 where
+  pub a : written ns (stationOf (linkAt ls i .a)) ≡ true
+  pub b : written ns (stationOf (linkAt ls i .b)) ≡ true
+  pub apart : sameStation (stationOf (linkAt ls i .a)) (stationOf (linkAt ls i .b)) ≡ false
+
+-- few enough, no node at the station of one before it, each end and both stations of the question written
+pub record Accepted (c : Chart) : Type 0 where
+  pub few-nodes : c .nodes .count ≤ mostNodes
+  pub few-links : c .links .count ≤ mostLinks
+  pub once : (i : ℕ) → i < c .nodes .count → written (nodesBefore (c .nodes) i) (nodeAt (c .nodes) i .station) ≡ false
+  pub joins : (i : ℕ) → i < c .links .count → Joins (c .nodes) (c .links) i
+  pub from : written (c .nodes) (c .from) ≡ true
+  pub to : written (c .nodes) (c .to) ≡ true
 
 -- ---- labels are ink
 

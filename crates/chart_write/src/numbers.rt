@@ -7,40 +7,24 @@ use chart::Nodes;
 use chart_keys::end_key;
 ghost use mathlib.Core.Path.{_≡_};
 ghost use Prim.Native.Nat.{_≤_};
+ghost use lib.ListN.{length};
 ghost use Rattle.lists.specs.Chains.{firstNumber};
-ghost use Rattle.chart_keys.specs.Keys.{KeyedNodes, NearKeys, FarKeys, KeyedLinks};
+ghost use Rattle.chart_keys.specs.Keys.{KeyedNodes, KeyedLinks};
 ghost use Rattle.chart_write.specs.Numbers.{nodeNumberAt, linkNumberAt, chartNumber};
 
-// The keys of the links' first ends.
-fn near_keys(links: Links) -> [u32; 48]
-    requires { ⌜ links .count ≤ 48 ⌝ }
-    ensures { λ r. ⌜ NearKeys links r ⌝ }
+// The keys of the links' first ends, and of their second ends.
+fn link_keys(links: Links, near: &mut [u32; 48], far: &mut [u32; 48])
+    requires { ⌜ (links .count ≤ 48) × (length (now near) ≡ 48) × (length (now far) ≡ 48) ⌝ }
+    ensures { λ _. ⌜ KeyedLinks links (now (near .exit)) (now (far .exit)) ⌝ }
 {
-    let mut keys = [0u32; 48];
     let n = links.count as usize;
     let mut i: usize = 0;
     while i < n {
         let l = links.items[i];
-        keys[i] = end_key(l.a);
+        near[i] = end_key(l.a);
+        far[i] = end_key(l.b);
         i += 1;
     }
-    keys
-}
-
-// The keys of their second ends.
-fn far_keys(links: Links) -> [u32; 48]
-    requires { ⌜ links .count ≤ 48 ⌝ }
-    ensures { λ r. ⌜ FarKeys links r ⌝ }
-{
-    let mut keys = [0u32; 48];
-    let n = links.count as usize;
-    let mut i: usize = 0;
-    while i < n {
-        let l = links.items[i];
-        keys[i] = end_key(l.b);
-        i += 1;
-    }
-    keys
 }
 
 // The number of the first bad node, or 0.
@@ -102,8 +86,9 @@ pub fn chart_number(c: Chart) -> u8
     if k != 0 {
         return k;
     }
-    let near = near_keys(links);
-    let far = far_keys(links);
+    let mut near = [0u32; 48];
+    let mut far = [0u32; 48];
+    link_keys(links, &mut near, &mut far);
     let k = links_number(nodes, &keys, links, &near, &far);
     if k != 0 {
         return k;

@@ -4,7 +4,7 @@ use mathlib.Core.Logic.{_⊎_, inl, inr}
 use mathlib.Core.Bool.{Bool, true, false, not, _&&_}
 use mathlib.Core.Option.{Option, none, some}
 use mathlib.Core.List.{List, [], _∷_, _++_, map, append-assoc, append-nil, List·Memᴰ, List·Memᴰ·head, List·Memᴰ·tail, List·Memᴰ·cases-cons, List·Memᴰ·not-nil, Memᴰ·append-right, Memᴰ·map, head-eq-of-cons-eq}
-use Prim.Native.Nat.{ℕ, suc, _+_, _-_, _<_, _≤_}
+use Prim.Native.Nat.{ℕ, suc, _<_, _≤_}
 use native.Mathlib.Omega.{arith}
 use lib.Dec.{eqb, ltb}
 use borrow.Author.Tests.{ltb-true, lt-ltb, eqb-true, eqb-false, eq-eqb, ne-eqb, not-true}
@@ -13,9 +13,21 @@ use Rattle.routes.proofs.Tests.{either, same-of, same-yes}
 use Rattle.routes.proofs.Laws.{links-more, links-end, links-split, mem-upFrom, tries-cut, tries-met, tries-over, tries-append, begun, fromLinks, all-here, all-on, all-complete}
 use Rattle.routes.proofs.Order.{all-once}
 use Rattle.routes.specs.Route.{Net, Sound, also, IsRoute, arrived, passed, NoneTwice}
-use Rattle.routes.specs.All.{upFrom, linksFrom, tries, allFrom, route, noMore, noRoute, firstOf, sameLinks, nextOf}
-use Rattle.routes.specs.Steps.{orLater, behind, leastTry, leastFrom, goesOn, isRoute}
+use Rattle.routes.specs.All.{upFrom, linksFrom, tries, allFrom, Answer, route, noMore, noRoute, firstOf, sameLinks, nextOf}
+use Rattle.routes.specs.Steps.{leastTry, leastFrom, goesOn, isRoute}
 use Rattle.routes.specs.Promises.{Gives, ended, another}
+
+-- the first answer, or the later one where it has no more
+unfoldable pub orLater : Answer → Answer → Answer
+orLater (route r) b = route r
+orLater noMore b = b
+orLater noRoute b = noRoute
+
+-- the answer with link i before its route
+unfoldable pub behind : ℕ → Answer → Answer
+behind i (route r) = route (i ∷ r)
+behind i noMore = noMore
+behind i noRoute = noRoute
 
 -- ---- answers
 

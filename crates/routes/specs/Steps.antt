@@ -5,19 +5,7 @@ use mathlib.Core.List.{List, [], _∷_}
 use Prim.Native.Nat.{ℕ}
 use lib.Dec.{eqb, ltb}
 use Rattle.routes.specs.Route.{Net, also}
-use Rattle.routes.specs.All.{linksFrom, tries, allFrom, Answer, route, noMore, noRoute, firstOf}
-
--- the first answer, or the later one where it has no more
-unfoldable pub orLater : Answer → Answer → Answer
-orLater (route r) b = route r
-orLater noMore b = b
-orLater noRoute b = noRoute
-
--- the answer with link i before its route
-unfoldable pub behind : ℕ → Answer → Answer
-behind i (route r) = route (i ∷ r)
-behind i noMore = noMore
-behind i noRoute = noRoute
+use Rattle.routes.specs.All.{linksFrom, tries, allFrom, Answer, firstOf}
 
 -- the least route from a node by a link at place j or later
 unfoldable pub leastTry : Net → ℕ → (ℕ → Bool) → ℕ → Answer

@@ -11,8 +11,8 @@ use lib.Seq.{set-at}
 use lib.Dec.{lit≤}
 use Rattle.routes.specs.Route.{Net}
 use Rattle.routes.specs.All.{unmet, allFrom, Answer, route, noMore, noRoute, firstOf}
-use Rattle.routes.specs.Steps.{orLater, behind, leastTry, leastFrom}
-use Rattle.routes.proofs.Next.{least-here, least-on, try-end, try-cut, try-met, try-over}
+use Rattle.routes.specs.Steps.{leastTry, leastFrom}
+use Rattle.routes.proofs.Next.{orLater, behind, least-here, least-on, try-end, try-cut, try-met, try-over}
 use Rattle.search.specs.Net.{farOf, nodeOf, net, metOf}
 use Rattle.search.specs.Steps.{ifOpen, openOf, orWay, wayFrom, zeros, foundAt}
 use Rattle.search.proofs.Leading.{never, if-open, open-below, open-mark, met-set, sound}

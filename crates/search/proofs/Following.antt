@@ -13,10 +13,10 @@ use lib.Dec.{eqb, ltb}
 use Rattle.lists.proofs.Bools.{both-ways}
 use Rattle.routes.specs.Route.{Net, also}
 use Rattle.routes.specs.All.{unmet, allFrom, noMore, noRoute, firstOf, sameLinks, nextOf}
-use Rattle.routes.specs.Steps.{orLater, behind, leastTry, goesOn, isRoute}
+use Rattle.routes.specs.Steps.{leastTry, goesOn, isRoute}
 use Rattle.routes.proofs.Tests.{either, same-yes, same-of}
 use Rattle.routes.proofs.Laws.{all-here, all-are}
-use Rattle.routes.proofs.Next.{next-found, next-past, next-on, isRoute-yes}
+use Rattle.routes.proofs.Next.{orLater, behind, next-found, next-past, next-on, isRoute-yes}
 use Rattle.search.specs.Net.{farOf, nodeOf, net, metOf}
 use Rattle.search.specs.Steps.{ifOpen, openOf}
 use Rattle.search.proofs.Leading.{never, far-inside, if-open, open-mark, met-set, sound}

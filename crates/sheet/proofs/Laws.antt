@@ -4,7 +4,7 @@ use mathlib.Core.Path.{_≡_, sym, ap, _∙_}
 use mathlib.Core.List.{List, [], _++_}
 use native.Mathlib.Omega.{arith}
 use borrow.Author.Tests.{lt-ltb, le-ltb}
-use lib.ListN.{length, getD}
+use lib.ListN.{length}
 use Rattle.lists.specs.Bytes.{Bytes}
 use Rattle.lists.specs.Places.{joined}
 use Rattle.lists.specs.Refusals.{unlessRefused}
@@ -14,16 +14,12 @@ use Rattle.lists.specs.declared.Written.the-variants.{Wrote, Refused}
 use Rattle.lists.proofs.Refusals.{refused}
 use Rattle.lists.proofs.Stores.{sets-past, sets-front}
 use Rattle.lists.proofs.Writing.{wrote-number, wrote-count}
-use Rattle.lists.proofs.Places.{joined-next, element-own}
-use Rattle.chart.specs.declared.ChartNode.{ChartNode}
-use Rattle.chart.specs.declared.Link.{Link}
-use Rattle.chart.specs.declared.Nodes.{Nodes}
-use Rattle.chart.specs.declared.Links.{Links}
+use Rattle.lists.proofs.Places.{joined-next}
 use Rattle.chart.specs.declared.Chart.{Chart}
-use Rattle.chart.specs.Values.{noNode, noLink, nodeAt, linkAt}
 use Rattle.chart_read.specs.declared.ChartRead.{ChartRead}
 use Rattle.chart_read.specs.Reading.{chartReadOf}
-use Rattle.chart_write.specs.Numbers.{chartNumber, Accepted}
+use Rattle.chart_write.specs.Numbers.{chartNumber}
+use Rattle.chart_write.specs.Promises.{Accepted}
 use Rattle.chart_write.proofs.Accepted.{accepted}
 use Rattle.chart_write.proofs.Promises.{write-undoes-read}
 use Rattle.search.proofs.Telling.{places-right}
@@ -33,24 +29,16 @@ use Rattle.chart_net.proofs.Places.{place-few}
 use Rattle.chart_net.proofs.Promises.{routes-kept, accepted-ends}
 use Rattle.text.specs.Laying.{Laid, last}
 use Rattle.text.proofs.Joining.{_▸_, said}
-use Rattle.sheet_lines.specs.Lines.{nodeLine, linkLine, refusedLine}
+use Rattle.sheet_lines.specs.Lines.{refusedLine}
 use Rattle.sheet_routes.specs.Listing.{routesHeld}
-use Rattle.sheet.specs.Sheet.{longLine, place, nodeLineAt, linkLineAt, chartText, readText, sheetText, sheetRefusal, sheetWriteOf, sheetAfter}
+use Rattle.sheet.specs.Sheet.{longLine, place, lineAt, chartText, readText, sheetText, sheetRefusal, sheetWriteOf, sheetAfter}
 
 -- ---- one line more
 
-module _ {o m q : List ℕ} {a b c : ℕ} (i : ℕ) where
-  pub node-more : (ns : Nodes) (d : ChartNode) → i < length (ns .items) → Laid o a (joined (nodeLineAt ns) place i) m b
-      → Laid m b (nodeLine i (getD (ns .items) i d)) q c → Laid o a (joined (nodeLineAt ns) place (i + 1)) q c
-  unfolding nodeLineAt nodeAt
-  node-more ns d h p w =
-      said (sym (joined-next (nodeLineAt ns) place i)) (p ▸ said (ap (nodeLine i) (element-own noNode d (ns .items) i h)) w)
-
-  pub link-more : (ls : Links) (d : Link) → i < length (ls .items) → Laid o a (joined (linkLineAt ls) place i) m b
-      → Laid m b (linkLine i (getD (ls .items) i d)) q c → Laid o a (joined (linkLineAt ls) place (i + 1)) q c
-  unfolding linkLineAt linkAt
-  link-more ls d h p w =
-      said (sym (joined-next (linkLineAt ls) place i)) (p ▸ said (ap (linkLine i) (element-own noLink d (ls .items) i h)) w)
+pub line-more : {A : Type 0} (line : ℕ → A → List ℕ) (d : ℕ → A) (i : ℕ) {x : A} {o m q : List ℕ} {a b c : ℕ} → x ≡ d i
+    → Laid o a (joined (lineAt line d) place i) m b → Laid m b (line i x) q c → Laid o a (joined (lineAt line d) place (i + 1)) q c
+unfolding lineAt
+line-more line d i e p w = said (sym (joined-next (lineAt line d) place i)) (p ▸ said (ap (line i) e) w)
 
 -- ---- the routes of an accepted chart
 

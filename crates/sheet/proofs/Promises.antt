@@ -31,11 +31,11 @@ use Rattle.routes.proofs.Laws.{all-sound}
 use Rattle.routes.proofs.Promises.{short-routes}
 use Rattle.chart_net.specs.Net.{chartNet, start, routesOf}
 use Rattle.chart_net.proofs.Promises.{accepted-ends}
-use Rattle.sheet_lines.specs.Lines.{countsLine, refusedLine}
+use Rattle.sheet_lines.specs.Lines.{nodeLine, linkLine, countsLine, refusedLine}
 use Rattle.sheet_lines.proofs.Lengths.{node-long, link-long, counts-long, question-long, refused-long}
 use Rattle.sheet_routes.specs.RouteLines.{routeLine, listText}
 use Rattle.sheet_routes.proofs.Lengths.{route-long, list-long}
-use Rattle.sheet.specs.Sheet.{longLine, place, nodeLineAt, linkLineAt, chartText, readText, sheetText, sheetRefusal, sheetWriteOf}
+use Rattle.sheet.specs.Sheet.{longLine, place, lineAt, chartText, readText, sheetText, sheetRefusal, sheetWriteOf}
 use Rattle.sheet.specs.Promises.{SheetShort}
 use Rattle.sheet.proofs.Laws.{read-accepted}
 
@@ -56,19 +56,19 @@ module _ (c : Chart) (ok : chartNumber c ≡ 0) where
   p : Passed c
   p = passed c ok
 
-  nodes-long : length (joined (nodeLineAt (c .nodes)) place (c .nodes .count)) ≤ 592
-  unfolding nodeLineAt
+  nodes-long : length (joined (lineAt nodeLine (nodeAt (c .nodes))) place (c .nodes .count)) ≤ 592
+  unfolding lineAt
   nodes-long =
       let few = p .few-nodes in
-      let h = joined-most (nodeLineAt (c .nodes)) place 37 (c .nodes .count)
+      let h = joined-most (lineAt nodeLine (nodeAt (c .nodes))) place 37 (c .nodes .count)
       (λ i l. let n = node-of c p i l in node-long i (nodeAt (c .nodes) i) (omega arith) (node-station (nodeAt (c .nodes) i) (n .ranged)) (n .short)) in
       omega arith
 
-  links-long : length (joined (linkLineAt (c .links)) place (c .links .count)) ≤ 1488
-  unfolding linkLineAt
+  links-long : length (joined (lineAt linkLine (linkAt (c .links))) place (c .links .count)) ≤ 1488
+  unfolding lineAt
   links-long =
       let few = p .few-links in
-      let h = joined-most (linkLineAt (c .links)) place 31 (c .links .count)
+      let h = joined-most (lineAt linkLine (linkAt (c .links))) place 31 (c .links .count)
       (λ i l. let e = link-ends (linkAt (c .links) i) (link-of c p i l .ranged) in link-long i (linkAt (c .links) i) (omega arith) (e .0) (e .1)) in
       omega arith
 

@@ -8,6 +8,7 @@ use Rattle.lists.specs.Refusals.{unlessRefused}
 use Rattle.address.specs.Address.{stationInRange, inRange, sameStation, sameAddress}
 use Rattle.chart.specs.Values.{noChart, nodeAt, linkAt, strayByte, nodeInRange, endInRange, linkInRange, standsAt, written, isEnd, endsAt, used}
 use Rattle.chart.specs.Numbers.{bothWritten, eitherUsed, nodeNumber, linkNumber, questionNumber}
+use Rattle.chart.specs.Sample.{bytesS}
 use Rattle.chart_read.specs.Fields.{bytesFrom, nodeIn, linkIn}
 use Rattle.chart_read.specs.Reading.{nothing, withNode, withLink, withQuestion, nodeLate, nodeBodyNumber, linkBodyNumber, questionBodyNumber, taking, bodyTaken, stepOf, walk, chartReadOf}
 use Rattle.routes.specs.Route.{also, only}
@@ -17,23 +18,7 @@ use Rattle.text.specs.Marks.{ascii}
 use Rattle.text.specs.Decimal.{digits}
 use Rattle.sheet_lines.specs.Lines.{stationText, endText, labelText, nodeLine, linkLine, countsLine, questionLine, refusedLine}
 use Rattle.sheet_routes.specs.RouteLines.{placesText, routeLine, listText}
-use Rattle.sheet.specs.Sheet.{nodeLineAt, linkLineAt, chartText, readText, sheetText}
-
--- S in bytes: four nodes, six links and the question
-unfoldable pub bytesS : List ℕ
-bytesS =
-    1 ∷ 0 ∷ 10 ∷ 9 ∷ 0 ∷ 1 ∷ 67 ∷ 111 ∷ 110 ∷ 116 ∷ 114 ∷ 111 ∷ 108 ∷
-    1 ∷ 0 ∷ 7 ∷ 9 ∷ 0 ∷ 20 ∷ 72 ∷ 105 ∷ 108 ∷ 108 ∷
-    1 ∷ 0 ∷ 7 ∷ 9 ∷ 0 ∷ 21 ∷ 72 ∷ 105 ∷ 108 ∷ 108 ∷
-    1 ∷ 0 ∷ 7 ∷ 9 ∷ 0 ∷ 30 ∷ 81 ∷ 117 ∷ 97 ∷ 121 ∷
-    2 ∷ 0 ∷ 9 ∷ 9 ∷ 0 ∷ 1 ∷ 2 ∷ 9 ∷ 0 ∷ 20 ∷ 1 ∷ 1 ∷
-    2 ∷ 0 ∷ 9 ∷ 9 ∷ 0 ∷ 1 ∷ 3 ∷ 9 ∷ 0 ∷ 21 ∷ 1 ∷ 1 ∷
-    2 ∷ 0 ∷ 9 ∷ 9 ∷ 0 ∷ 20 ∷ 2 ∷ 9 ∷ 0 ∷ 30 ∷ 1 ∷ 1 ∷
-    2 ∷ 0 ∷ 9 ∷ 9 ∷ 0 ∷ 21 ∷ 2 ∷ 9 ∷ 0 ∷ 30 ∷ 2 ∷ 1 ∷
-    2 ∷ 0 ∷ 9 ∷ 9 ∷ 0 ∷ 20 ∷ 3 ∷ 9 ∷ 0 ∷ 21 ∷ 3 ∷ 1 ∷
-    2 ∷ 0 ∷ 9 ∷ 9 ∷ 0 ∷ 1 ∷ 4 ∷ 9 ∷ 0 ∷ 30 ∷ 3 ∷ 0 ∷
-    3 ∷ 0 ∷ 6 ∷ 9 ∷ 0 ∷ 1 ∷ 9 ∷ 0 ∷ 30 ∷
-    []
+use Rattle.sheet.specs.Sheet.{lineAt, chartText, readText, sheetText}
 
 -- the sheet of S
 unfoldable pub textS : List ℕ
@@ -69,5 +54,5 @@ pub record Cases : Type 0 where
   pub long : sheetText (replicate 4097 1) ≡ ascii "too long\n"
 
 pub cases : Cases
-unfolding sheetText readText chartText nodeLineAt linkLineAt joined stationText endText labelText nodeLine linkLine countsLine questionLine refusedLine placesText routeLine listText digits chartReadOf walk stepOf bodyTaken taking unlessRefused nothing noChart nodeBodyNumber linkBodyNumber questionBodyNumber nodeLate nodeIn linkIn bytesFrom withNode withLink withQuestion nodeNumber linkNumber questionNumber bothWritten eitherUsed nodeInRange linkInRange endInRange stationInRange inRange sameStation sameAddress written used standsAt endsAt isEnd nodeAt linkAt strayByte anyBelow firstBelow elementAt firsts row also only upFrom linksFrom via over tries routes tally unmet allFrom allRoutes stationAt placeIn crossed farIn chartNet start routesOf bytesS textS
+unfolding sheetText readText chartText lineAt joined stationText endText labelText nodeLine linkLine countsLine questionLine refusedLine placesText routeLine listText digits chartReadOf walk stepOf bodyTaken taking unlessRefused nothing noChart nodeBodyNumber linkBodyNumber questionBodyNumber nodeLate nodeIn linkIn bytesFrom withNode withLink withQuestion nodeNumber linkNumber questionNumber bothWritten eitherUsed nodeInRange linkInRange endInRange stationInRange inRange sameStation sameAddress written used standsAt endsAt isEnd nodeAt linkAt strayByte anyBelow firstBelow elementAt firsts row also only upFrom linksFrom via over tries routes tally unmet allFrom allRoutes stationAt placeIn crossed farIn chartNet start routesOf bytesS textS
 cases = record { whole = refl; one = refl; none = refl; bad = refl; long = refl }

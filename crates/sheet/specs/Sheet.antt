@@ -8,8 +8,6 @@ use Rattle.lists.specs.Places.{joined}
 use Rattle.lists.specs.Refusals.{refuse, unlessRefused}
 use Rattle.lists.specs.declared.Written.{Written}
 use Rattle.lists.specs.Writing.{wroteUnless}
-use Rattle.chart.specs.declared.Nodes.{Nodes}
-use Rattle.chart.specs.declared.Links.{Links}
 use Rattle.chart.specs.declared.Chart.{Chart}
 use Rattle.chart.specs.Values.{nodeAt, linkAt}
 use Rattle.chart_read.specs.declared.ChartRead.{ChartRead}
@@ -34,19 +32,16 @@ longLine = ascii "too long\n"
 abbrev pub place : ℕ → ℕ
 place i = i
 
--- the line of the node at a place, and of the link at one
-unfoldable pub nodeLineAt : Nodes → ℕ → List ℕ
-nodeLineAt ns i = nodeLine i (nodeAt ns i)
-
-unfoldable pub linkLineAt : Links → ℕ → List ℕ
-linkLineAt ls i = linkLine i (linkAt ls i)
+-- the line of what stands at a place
+unfoldable pub lineAt : {A : Type 0} → (ℕ → A → List ℕ) → (ℕ → A) → ℕ → List ℕ
+lineAt line d i = line i (d i)
 
 -- the sheet of a chart: the counts, its nodes, its links, the question, and all its routes in order
 unfoldable pub chartText : Chart → List ℕ
 chartText c =
     countsLine (c .nodes .count) (c .links .count)
-    ++ joined (nodeLineAt (c .nodes)) place (c .nodes .count)
-    ++ joined (linkLineAt (c .links)) place (c .links .count)
+    ++ joined (lineAt nodeLine (nodeAt (c .nodes))) place (c .nodes .count)
+    ++ joined (lineAt linkLine (linkAt (c .links))) place (c .links .count)
     ++ questionLine (c .from) (c .to)
     ++ listText mostRoutes (routesOf c)
 

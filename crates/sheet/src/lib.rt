@@ -21,11 +21,13 @@ ghost use lib.ListN.{length};
 ghost use Rattle.lists.specs.Places.{joined};
 ghost use Rattle.lists.specs.Refusals.{unlessRefused};
 ghost use Rattle.lists.specs.Writing.{writeNumber, writeCount};
+ghost use Rattle.chart.specs.Values.{nodeAt, linkAt};
 ghost use Rattle.chart_write.specs.Numbers.{chartNumber};
 ghost use Rattle.chart_net.specs.Net.{routesOf};
 ghost use Rattle.text.specs.Laying.{Laid};
+ghost use Rattle.sheet_lines.specs.Lines.{nodeLine, linkLine};
 ghost use Rattle.sheet_routes.specs.RouteLines.{listText};
-ghost use Rattle.sheet.specs.Sheet.{place, nodeLineAt, linkLineAt, mostRoutes, chartText, readText, sheetText, sheetRefusal, sheetWriteOf, sheetAfter};
+ghost use Rattle.sheet.specs.Sheet.{place, lineAt, mostRoutes, chartText, readText, sheetText, sheetRefusal, sheetWriteOf, sheetAfter};
 
 // An input above this is not looked at.
 pub const LONGEST_INPUT: usize = 4096;
@@ -39,7 +41,7 @@ pub const LONGEST_SHEET: usize = 47129;
 // The node lines.
 fn put_nodes(out: &mut [u8], at: usize, nodes: Nodes) -> usize
     requires { ⌜ nodes .count ≤ 16 ⌝ }
-    ensures { λ r. ⌜ Laid (now (out .entry)) at (joined (nodeLineAt nodes) place (nodes .count)) (now (out .exit)) r ⌝ }
+    ensures { λ r. ⌜ Laid (now (out .entry)) at (joined (lineAt nodeLine (nodeAt nodes)) place (nodes .count)) (now (out .exit)) r ⌝ }
 {
     let mut next = at;
     let mut i: usize = 0;
@@ -54,7 +56,7 @@ fn put_nodes(out: &mut [u8], at: usize, nodes: Nodes) -> usize
 // The link lines.
 fn put_links(out: &mut [u8], at: usize, links: Links) -> usize
     requires { ⌜ links .count ≤ 48 ⌝ }
-    ensures { λ r. ⌜ Laid (now (out .entry)) at (joined (linkLineAt links) place (links .count)) (now (out .exit)) r ⌝ }
+    ensures { λ r. ⌜ Laid (now (out .entry)) at (joined (lineAt linkLine (linkAt links)) place (links .count)) (now (out .exit)) r ⌝ }
 {
     let mut next = at;
     let mut i: usize = 0;

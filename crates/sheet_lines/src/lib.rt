@@ -6,8 +6,11 @@ use chart::Link;
 use text::put_byte;
 use text::put_bytes;
 use text::put_number;
+ghost use mathlib.Core.List.{_++_};
 ghost use lib.ListN.{take};
 ghost use Rattle.text.specs.Laying.{Laid};
+ghost use Rattle.text.specs.Marks.{lf};
+ghost use Rattle.text.specs.Decimal.{decimal};
 ghost use Rattle.sheet_lines.specs.Lines.{stationText, endText, labelText, nodeLine, onOff, linkLine, countsLine, questionLine, refusedLine};
 
 // A station: brigade/node.
@@ -84,15 +87,29 @@ pub fn put_link(out: &mut [u8], at: usize, i: usize, l: Link) -> usize
     put_byte(out, n7, b'\n')
 }
 
+// Two words, a number after each, and the line's end.
+fn put_numbers(out: &mut [u8], at: usize, first: &[u8], a: usize, second: &[u8], b: usize) -> usize
+    ensures { λ r. ⌜ Laid (now (out .entry)) at (now (first .entry) ++ decimal a ++ now (second .entry) ++ decimal b ++ lf) (now (out .exit)) r ⌝ }
+{
+    let n1 = put_bytes(out, at, first);
+    let n2 = put_number(out, n1, a);
+    let n3 = put_bytes(out, n2, second);
+    let n4 = put_number(out, n3, b);
+    put_byte(out, n4, b'\n')
+}
+
 // The first line, with the two counts.
 pub fn put_counts(out: &mut [u8], at: usize, nodes: u8, links: u8) -> usize
     ensures { λ r. ⌜ Laid (now (out .entry)) at (countsLine nodes links) (now (out .exit)) r ⌝ }
 {
-    let n1 = put_bytes(out, at, b"nodes ");
-    let n2 = put_number(out, n1, nodes as usize);
-    let n3 = put_bytes(out, n2, b" links ");
-    let n4 = put_number(out, n3, links as usize);
-    put_byte(out, n4, b'\n')
+    put_numbers(
+        out,
+        at,
+        b"nodes ",
+        nodes as usize,
+        b" links ",
+        links as usize,
+    )
 }
 
 // The question's line.
@@ -110,9 +127,5 @@ pub fn put_question(out: &mut [u8], at: usize, from: Station, to: Station) -> us
 pub fn put_refused(out: &mut [u8], at: usize, number: u8, place: usize) -> usize
     ensures { λ r. ⌜ Laid (now (out .entry)) at (refusedLine number place) (now (out .exit)) r ⌝ }
 {
-    let n1 = put_bytes(out, at, b"refused ");
-    let n2 = put_number(out, n1, number as usize);
-    let n3 = put_bytes(out, n2, b" at ");
-    let n4 = put_number(out, n3, place);
-    put_byte(out, n4, b'\n')
+    put_numbers(out, at, b"refused ", number as usize, b" at ", place)
 }

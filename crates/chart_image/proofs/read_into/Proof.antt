@@ -1,6 +1,6 @@
 -- `chart_image::read_into` meets its contract: the chart's number leaves the image; else its bytes are stored.
 use Rattle.chart_image.proofs.Laws.{read-spare, near, read-refused, read-short, read-done}
-use mathlib.Core.Path.{_≡_, sym, ap, refl, subst, _∙_}
+use mathlib.Core.Path.{sym, ap, subst, _∙_}
 use Rattle.chart_read.specs.declared.ChartRead.{ChartRead}
 use Rattle.chart_image.specs.Chart.{SpareLinks}
 use native.Mathlib.Omega.{arith}

@@ -1,5 +1,4 @@
 -- `chart_net::place_of` meets its contract: the place by the keys of the nodes.
-use mathlib.Core.Path.{_∙_}
 use borrow.Author.Needs.{needs}
 use Rattle.chart_net.proofs.place_of.Statement.{statement}
 use Rattle.chart_net.proofs.place_of.Tie as tie

@@ -1,5 +1,5 @@
 -- `chart_read::read_chart` meets its contract. The loop's invariant: the walk from here is the whole reading, and the keys are those of what is held.
-use Prim.Native.Nat.{ℕ, _+_, _-_, _<_, _≤_}
+use Prim.Native.Nat.{ℕ, _+_, _-_, _≤_}
 use mathlib.Core.Path.{_≡_, sym, _∙_}
 use mathlib.Core.List.{List}
 use native.Mathlib.Omega.{arith}

@@ -1,54 +1,26 @@
--- `sheet_lines::put_refused` meets its contract: what the calls lay is joined in the line's order.
+-- `sheet_lines::put_refused` meets its contract: the line is two words, a number after each.
 use borrow.Author.Needs.{needs}
-use Rattle.text.proofs.Joining.{_▸_}
 use Rattle.sheet_lines.specs.Lines.{refusedLine}
 use Rattle.sheet_lines.proofs.put_refused.Statement.{statement}
 use Rattle.sheet_lines.proofs.put_refused.Tie as tie
 
-slice-aggregate-put-bytes : tie.Need-slice-aggregate-put-bytes
-slice-aggregate-put-bytes c = search needs
+slice-aggregate-put-numbers : tie.Need-slice-aggregate-put-numbers
+slice-aggregate-put-numbers c = search needs
 
-put-bytes-requires : tie.Need-put-bytes-requires
-put-bytes-requires c κs = search needs
+slice-aggregate-put-numbers-2 : tie.Need-slice-aggregate-put-numbers-2
+slice-aggregate-put-numbers-2 c = search needs
 
-put-number-requires : tie.Need-put-number-requires
-put-number-requires c κs = search needs
-
-slice-aggregate-put-bytes-2 : tie.Need-slice-aggregate-put-bytes-2
-slice-aggregate-put-bytes-2 c = search needs
-
-put-bytes-requires-2 : tie.Need-put-bytes-requires-2
-put-bytes-requires-2 c κs = search needs
-
-put-number-requires-2 : tie.Need-put-number-requires-2
-put-number-requires-2 c κs = search needs
-
-put-byte-requires : tie.Need-put-byte-requires
-put-byte-requires c κs = search needs
+put-numbers-requires : tie.Need-put-numbers-requires
+put-numbers-requires c κs = search needs
 
 same-length : tie.Need-same-length
 same-length c = search needs
 
 returns : tie.Need-returns
 unfolding refusedLine
-returns c =
-    let c5 = c .before .before in
-    let c4 = c5 .before .before .before .before in
-    let c3 = c4 .before .before .before .before in
-    let c2 = c3 .before .before .before .before .before in
-    let c1 = c2 .before .before .before .before in
-    c1 .put-bytes .ensures ▸ c2 .put-number .ensures ▸ c3 .put-bytes2 .ensures ▸ c4 .put-number2 .ensures ▸ c5 .put-byte .ensures
+returns c = search needs
 
 pub put-refused-spec : {M : Type 1} → statement M
 put-refused-spec =
     tie.close
-    (tie.spec
-    slice-aggregate-put-bytes
-    put-bytes-requires
-    put-number-requires
-    slice-aggregate-put-bytes-2
-    put-bytes-requires-2
-    put-number-requires-2
-    put-byte-requires
-    same-length
-    returns)
+    (tie.spec slice-aggregate-put-numbers slice-aggregate-put-numbers-2 put-numbers-requires same-length returns)

@@ -1,6 +1,6 @@
 -- `chart_image::reading::label_in` meets its contract. The loop's invariant: the first i bytes are in the row.
 use Prim.Native.Nat.{_≤_, _-_}
-use mathlib.Core.Path.{_≡_, sym, ap, refl, _∙_}
+use mathlib.Core.Path.{_≡_, sym}
 use native.Mathlib.Omega.{arith}
 use Rattle.lists.specs.Places.{row}
 use Rattle.lists.proofs.Places.{row-none, row-next}

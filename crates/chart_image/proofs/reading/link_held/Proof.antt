@@ -1,6 +1,6 @@
 -- `chart_image::reading::link_held` meets its contract: the on byte decides, else two addresses and it.
 use borrow.Author.Tests.{lt-ltb, le-ltb}
-use mathlib.Core.Path.{_≡_, sym, ap, refl, _∙_}
+use mathlib.Core.Path.{_∙_}
 use Rattle.chart_image.specs.Chart.{linkHeldAt}
 use borrow.Author.Needs.{needs}
 use Rattle.chart_image.proofs.reading.link_held.Statement.{statement}

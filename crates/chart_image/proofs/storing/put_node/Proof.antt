@@ -1,10 +1,6 @@
 -- `chart_image::storing::put_node` meets its contract: three stores in a row are one of the joined bytes.
-use Prim.Native.Nat.{_≤_, _-_}
-use mathlib.Core.Path.{_≡_, sym, ap, refl, _∙_}
-use native.Mathlib.Omega.{arith}
+use mathlib.Core.Path.{_≡_, _∙_}
 use lib.ListN.{length, length-map}
-use lib.Seq.{sets}
-use Rattle.chart_image.specs.Chart.{nodeImage}
 use Rattle.chart_image.proofs.Laws.{node-stored}
 use borrow.Author.Needs.{needs}
 use Rattle.chart_image.proofs.storing.put_node.Statement.{statement}

@@ -1,7 +1,7 @@
 -- `chart_image::storing::put_nodes` meets its contract. The loop's invariant: the nodes before i are stored.
 use Rattle.chart.proofs.Laws.{node-read}
 use Prim.Native.Nat.{_≤_, _-_}
-use mathlib.Core.Path.{_≡_, sym, ap, refl, _∙_}
+use mathlib.Core.Path.{_≡_, refl, _∙_}
 use native.Mathlib.Omega.{arith}
 use lib.ListN.{length, length-map}
 use lib.Seq.{sets}

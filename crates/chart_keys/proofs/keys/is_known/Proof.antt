@@ -1,15 +1,13 @@
 -- `chart_keys::keys::is_known` meets its contract. The loop's invariant: none before i is the key.
 use Prim.Native.Nat.{_≤_, _-_}
-use mathlib.Core.Path.{_≡_, sym, ap, _∙_}
+use mathlib.Core.Path.{_≡_, sym, _∙_}
 use mathlib.Core.Bool.{false}
-use lib.Dec.{eqb}
-use lib.ListN.{getD}
 use borrow.Author.Tests.{eq-eqb, ne-eqb}
 use borrow.Author.Needs.{needs}
 use native.Mathlib.Omega.{arith}
 use Rattle.lists.specs.Places.{anyBelow}
 use Rattle.lists.proofs.Places.{any-none, any-more, any-end, any-found}
-use Rattle.chart_keys.specs.Keys.{stationKey, keyIs, known}
+use Rattle.chart_keys.specs.Keys.{keyIs}
 use Rattle.chart_keys.proofs.ByKeys.{known-by}
 use Rattle.chart_keys.proofs.keys.is_known.Statement.{statement}
 use Rattle.chart_keys.proofs.keys.is_known.Tie as tie

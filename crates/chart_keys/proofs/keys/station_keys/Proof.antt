@@ -5,7 +5,7 @@ use native.Mathlib.Omega.{arith}
 use lib.ListN.{length, length-map}
 use borrow.Author.Needs.{needs}
 use Rattle.lists.specs.Places.{row}
-use Rattle.lists.proofs.Places.{row-none, length-row}
+use Rattle.lists.proofs.Places.{row-none}
 use Rattle.chart.specs.Values.{nodeAt}
 use Rattle.chart_keys.specs.Keys.{nodeKeyAt}
 use Rattle.chart_keys.proofs.ByKeys.{keys-next, fits-next}

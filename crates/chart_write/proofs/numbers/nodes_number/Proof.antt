@@ -1,5 +1,5 @@
 -- `chart_write::numbers::nodes_number` meets its contract. The loop's invariant: no node before i has a number.
-use Prim.Native.Nat.{_≤_, _<_, _-_}
+use Prim.Native.Nat.{_≤_, _-_}
 use mathlib.Core.Path.{_≡_, sym, _∙_}
 use native.Mathlib.Omega.{arith}
 use lib.ListN.{length, length-map}

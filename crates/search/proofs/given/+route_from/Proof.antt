@@ -1,6 +1,6 @@
 -- `search::given::route_from` meets its contract: each link is tested where one stands, and the rest from its far end. What is left of the list falls.
 use mathlib.Core.Path.{sym, _∙_}
-use Prim.Native.Nat.{ℕ, _+_, _-_, _<_}
+use Prim.Native.Nat.{ℕ, _-_, _<_}
 use native.Mathlib.Omega.{arith}
 use borrow.Author.Needs.{needs}
 use lib.ListN.{length, getD}

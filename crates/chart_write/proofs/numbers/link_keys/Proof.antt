@@ -1,0 +1,104 @@
+-- `chart_write::numbers::link_keys` meets its contract. The loop's invariant: the keys of the links before i are there.
+use Prim.Native.Nat.{ℕ, _≤_, _<_, _-_}
+use mathlib.Core.Path.{_≡_, refl, subst, _∙_}
+use native.Mathlib.Omega.{arith}
+use lib.ListN.{length, length-map, getD, length-set}
+use borrow.Author.Needs.{needs}
+use Rattle.chart.specs.declared.Link.{Link}
+use Rattle.chart.specs.Values.{linkAt}
+use Rattle.chart.proofs.Laws.{link-read}
+use Rattle.chart_keys.specs.Keys.{EndKeyed, KeyedLinks}
+use Rattle.chart_keys.proofs.ByKeys.{keyed-more}
+use Rattle.chart_write.specs.Numbers.{linksBefore}
+use Rattle.chart_write.proofs.numbers.link_keys.Statement.{statement}
+use Rattle.chart_write.proofs.numbers.link_keys.Tie as tie
+
+abbrev Inv-loop : tie.InvT-loop
+Inv-loop near₀ far₀ links n i₀ near far i = (i ≤ n) × (length near ≡ 48) × (length far ≡ 48) × KeyedLinks (linksBefore links i) near far
+
+abbrev μ-loop : tie.MeasureT-loop
+μ-loop near₀ far₀ links n i₀ near far i = n - i
+
+-- the array of links has 48 places
+whole : (s : tie.Start Inv-loop μ-loop) → length (s .args .t1 .items) ≡ 48
+whole s = simp length-map at (s .good .0 .1 .1 .1 .0 .1 .0 .1)
+
+cast-n : tie.Need-cast-n Inv-loop μ-loop
+cast-n c = search needs
+
+loop-holds : tie.Need-loop-holds Inv-loop μ-loop
+loop-holds c = (omega arith, c .pre .1, c .pre .2, record { a = λ j h. absurd (omega arith); b = λ j h. absurd (omega arith) })
+
+mul-l : tie.Need-mul-l Inv-loop μ-loop
+mul-l c = search needs
+
+element-copy-out-l : tie.Need-element-copy-out-l Inv-loop μ-loop
+element-copy-out-l c = search needs
+
+end-key-requires : tie.Need-end-key-requires Inv-loop μ-loop
+end-key-requires c κs = search needs
+
+mul-near : tie.Need-mul-near Inv-loop μ-loop
+mul-near c = search needs
+
+element-write-near : tie.Need-element-write-near Inv-loop μ-loop
+element-write-near c = omega (arith, whole (c .before .before .before .before))
+
+end-key-requires-2 : tie.Need-end-key-requires-2 Inv-loop μ-loop
+end-key-requires-2 c κs = search needs
+
+mul-far : tie.Need-mul-far Inv-loop μ-loop
+mul-far c = search needs
+
+element-write-far : tie.Need-element-write-far Inv-loop μ-loop
+element-write-far c = omega (arith, whole (c .before .before .before .before .before))
+
+add-i : tie.Need-add-i Inv-loop μ-loop
+add-i c = search needs
+
+loop-less : tie.Need-loop-less Inv-loop μ-loop
+loop-less c = search needs
+
+loop-again : tie.Need-loop-again Inv-loop μ-loop
+unfolding linkAt
+loop-again c =
+    let s = c .before .before .before .before .before in
+    let l = c .before .before .before .before .loop in
+    let links = s .args .t1 in
+    let g : l .i < length (links .items) = omega (arith, whole s) in
+    let e = link-read links _ (l .i) g in (
+      omega arith,
+      length-set (l .near) (l .i) (c .before .end-key .result) ∙ l .inv .1,
+      length-set (l .far) (l .i) (c .end-key2 .result) ∙ l .inv .2,
+      record {
+        a = keyed-more (λ (j k : ℕ). EndKeyed (linkAt links j .a) k) (l .near) (l .i) _ (omega (arith, l .inv .1)) (subst (λ (x : Link). EndKeyed (x .a) (c .before .end-key .result)) e (c .before .end-key .ensures)) (l .inv .3 .a);
+        b = keyed-more (λ (j k : ℕ). EndKeyed (linkAt links j .b) k) (l .far) (l .i) _ (omega (arith, l .inv .2)) (subst (λ (x : Link). EndKeyed (x .b) (c .end-key2 .result)) e (c .end-key2 .ensures)) (l .inv .3 .b);
+      },
+    )
+
+returns : tie.Need-returns Inv-loop μ-loop
+unfolding linkAt
+returns c =
+    let l = c .before .loop in
+    record { a = λ j h. l .inv .3 .a j (omega arith); b = λ j h. l .inv .3 .b j (omega arith) }
+
+pub link-keys-spec : {M : Type 1} → statement M
+link-keys-spec =
+    tie.close
+    (tie.spec
+    Inv-loop
+    μ-loop
+    cast-n
+    loop-holds
+    mul-l
+    element-copy-out-l
+    end-key-requires
+    mul-near
+    element-write-near
+    end-key-requires-2
+    mul-far
+    element-write-far
+    add-i
+    loop-less
+    loop-again
+    returns)
