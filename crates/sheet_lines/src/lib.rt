@@ -9,28 +9,32 @@ use text::put_number;
 ghost use mathlib.Core.List.{_++_};
 ghost use lib.ListN.{take};
 ghost use Rattle.text.specs.Laying.{Laid};
-ghost use Rattle.text.specs.Marks.{lf};
+ghost use Rattle.text.specs.Marks.{blank, lf};
 ghost use Rattle.text.specs.Decimal.{decimal};
 ghost use Rattle.sheet_lines.specs.Lines.{stationText, endText, labelText, nodeLine, onOff, linkLine, countsLine, questionLine, refusedLine};
 
-// A station: brigade/node.
-fn put_station(out: &mut [u8], at: usize, s: Station) -> usize
-    ensures { λ r. ⌜ Laid (now (out .entry)) at (stationText s) (now (out .exit)) r ⌝ }
+// Some bytes, and a number after them.
+fn put_numbered(out: &mut [u8], at: usize, before: &[u8], n: usize) -> usize
+    ensures { λ r. ⌜ Laid (now (out .entry)) at (now (before .entry) ++ decimal n) (now (out .exit)) r ⌝ }
 {
-    let n1 = put_number(out, at, s.brigade as usize);
-    let n2 = put_byte(out, n1, b'/');
-    put_number(out, n2, s.node.0 as usize)
+    let next = put_bytes(out, at, before);
+    put_number(out, next, n)
 }
 
-// A link's end: brigade/node/port.
-fn put_end(out: &mut [u8], at: usize, e: Address) -> usize
-    ensures { λ r. ⌜ Laid (now (out .entry)) at (endText e) (now (out .exit)) r ⌝ }
+// Some bytes, and a station after them: brigade/node.
+fn put_station(out: &mut [u8], at: usize, before: &[u8], s: Station) -> usize
+    ensures { λ r. ⌜ Laid (now (out .entry)) at (now (before .entry) ++ stationText s) (now (out .exit)) r ⌝ }
 {
-    let n1 = put_number(out, at, e.brigade as usize);
-    let n2 = put_byte(out, n1, b'/');
-    let n3 = put_number(out, n2, e.node.0 as usize);
-    let n4 = put_byte(out, n3, b'/');
-    put_number(out, n4, e.port.0 as usize)
+    let next = put_numbered(out, at, before, s.brigade as usize);
+    put_numbered(out, next, b"/", s.node.0 as usize)
+}
+
+// A blank, and a link's end after it: brigade/node/port.
+fn put_end(out: &mut [u8], at: usize, e: Address) -> usize
+    ensures { λ r. ⌜ Laid (now (out .entry)) at (blank ++ endText e) (now (out .exit)) r ⌝ }
+{
+    let next = put_station(out, at, b" ", address::station_of(e));
+    put_numbered(out, next, b"/", e.port.0 as usize)
 }
 
 // A blank and the first bytes of a label, as many as it has; nothing where it has none.
@@ -55,20 +59,19 @@ pub fn put_node(out: &mut [u8], at: usize, i: usize, n: ChartNode) -> usize
     let station = n.station;
     let label = n.label;
     let n1 = put_number(out, at, i);
-    let n2 = put_byte(out, n1, b' ');
-    let n3 = put_station(out, n2, station);
-    let n4 = put_label(out, n3, label, n.length);
-    put_byte(out, n4, b'\n')
+    let n2 = put_station(out, n1, b" ", station);
+    let n3 = put_label(out, n2, label, n.length);
+    put_byte(out, n3, b'\n')
 }
 
-// Whether a link is on.
+// A blank, whether a link is on, and the line's end.
 fn put_on(out: &mut [u8], at: usize, on: bool) -> usize
-    ensures { λ r. ⌜ Laid (now (out .entry)) at (onOff on) (now (out .exit)) r ⌝ }
+    ensures { λ r. ⌜ Laid (now (out .entry)) at (blank ++ onOff on ++ lf) (now (out .exit)) r ⌝ }
 {
     if on {
-        return put_bytes(out, at, b"on");
+        return put_bytes(out, at, b" on\n");
     }
-    put_bytes(out, at, b"off")
+    put_bytes(out, at, b" off\n")
 }
 
 // The line of the link at a place.
@@ -78,24 +81,18 @@ pub fn put_link(out: &mut [u8], at: usize, i: usize, l: Link) -> usize
     let a = l.a;
     let b = l.b;
     let n1 = put_number(out, at, i);
-    let n2 = put_byte(out, n1, b' ');
-    let n3 = put_end(out, n2, a);
-    let n4 = put_byte(out, n3, b' ');
-    let n5 = put_end(out, n4, b);
-    let n6 = put_byte(out, n5, b' ');
-    let n7 = put_on(out, n6, l.on);
-    put_byte(out, n7, b'\n')
+    let n2 = put_end(out, n1, a);
+    let n3 = put_end(out, n2, b);
+    put_on(out, n3, l.on)
 }
 
 // Two words, a number after each, and the line's end.
 fn put_numbers(out: &mut [u8], at: usize, first: &[u8], a: usize, second: &[u8], b: usize) -> usize
     ensures { λ r. ⌜ Laid (now (out .entry)) at (now (first .entry) ++ decimal a ++ now (second .entry) ++ decimal b ++ lf) (now (out .exit)) r ⌝ }
 {
-    let n1 = put_bytes(out, at, first);
-    let n2 = put_number(out, n1, a);
-    let n3 = put_bytes(out, n2, second);
-    let n4 = put_number(out, n3, b);
-    put_byte(out, n4, b'\n')
+    let n1 = put_numbered(out, at, first, a);
+    let n2 = put_numbered(out, n1, second, b);
+    put_byte(out, n2, b'\n')
 }
 
 // The first line, with the two counts.
@@ -116,11 +113,9 @@ pub fn put_counts(out: &mut [u8], at: usize, nodes: u8, links: u8) -> usize
 pub fn put_question(out: &mut [u8], at: usize, from: Station, to: Station) -> usize
     ensures { λ r. ⌜ Laid (now (out .entry)) at (questionLine from to) (now (out .exit)) r ⌝ }
 {
-    let n1 = put_bytes(out, at, b"from ");
-    let n2 = put_station(out, n1, from);
-    let n3 = put_bytes(out, n2, b" to ");
-    let n4 = put_station(out, n3, to);
-    put_byte(out, n4, b'\n')
+    let n1 = put_station(out, at, b"from ", from);
+    let n2 = put_station(out, n1, b" to ", to);
+    put_byte(out, n2, b'\n')
 }
 
 // The one line of a refused chart.

@@ -1,24 +1,19 @@
 -- `sheet_lines::put_question` meets its contract: what the calls lay is joined in the line's order.
-use borrow.Author.Needs.{needs}
-use Rattle.text.proofs.Joining.{_▸_}
+use mathlib.Core.List.{append-assoc}
+use Rattle.text.proofs.Joining.{said, _▸_}
 use Rattle.sheet_lines.specs.Lines.{questionLine}
+use borrow.Author.Needs.{needs}
 use Rattle.sheet_lines.proofs.put_question.Statement.{statement}
 use Rattle.sheet_lines.proofs.put_question.Tie as tie
 
-slice-aggregate-put-bytes : tie.Need-slice-aggregate-put-bytes
-slice-aggregate-put-bytes c = search needs
-
-put-bytes-requires : tie.Need-put-bytes-requires
-put-bytes-requires c κs = search needs
+slice-aggregate-put-station : tie.Need-slice-aggregate-put-station
+slice-aggregate-put-station c = search needs
 
 put-station-requires : tie.Need-put-station-requires
 put-station-requires c κs = search needs
 
-slice-aggregate-put-bytes-2 : tie.Need-slice-aggregate-put-bytes-2
-slice-aggregate-put-bytes-2 c = search needs
-
-put-bytes-requires-2 : tie.Need-put-bytes-requires-2
-put-bytes-requires-2 c κs = search needs
+slice-aggregate-put-station-2 : tie.Need-slice-aggregate-put-station-2
+slice-aggregate-put-station-2 c = search needs
 
 put-station-requires-2 : tie.Need-put-station-requires-2
 put-station-requires-2 c κs = search needs
@@ -32,22 +27,18 @@ same-length c = search needs
 returns : tie.Need-returns
 unfolding questionLine
 returns c =
-    let c5 = c .before .before in
-    let c4 = c5 .before .before .before .before in
-    let c3 = c4 .before .before .before .before in
-    let c2 = c3 .before .before .before .before .before in
-    let c1 = c2 .before .before .before .before in
-    c1 .put-bytes .ensures ▸ c2 .put-station .ensures ▸ c3 .put-bytes2 .ensures ▸ c4 .put-station2 .ensures ▸ c5 .put-byte .ensures
+    let c3 = c .before .before in
+    let c2 = c3 .before .before .before .before in
+    let c1 = c2 .before .before .before .before .before in
+    said (simp append-assoc) (c1 .put-station .ensures ▸ c2 .put-station2 .ensures ▸ c3 .put-byte .ensures)
 
 pub put-question-spec : {M : Type 1} → statement M
 put-question-spec =
     tie.close
     (tie.spec
-    slice-aggregate-put-bytes
-    put-bytes-requires
+    slice-aggregate-put-station
     put-station-requires
-    slice-aggregate-put-bytes-2
-    put-bytes-requires-2
+    slice-aggregate-put-station-2
     put-station-requires-2
     put-byte-requires
     same-length
