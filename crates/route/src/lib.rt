@@ -29,11 +29,11 @@ pub struct Entry {
     pub on: bool,
 }
 
-// The own brigade and node, and the entries in order. Those past the count are not looked at.
+// The own brigade and node, and the entries in order. Those past the count are not looked at. (In this order no gap lies between the fields.)
 pub struct Table {
     pub brigade: u8,
-    pub node: Node,
     pub count: u8,
+    pub node: Node,
     pub entries: [Entry; 32],
 }
 
