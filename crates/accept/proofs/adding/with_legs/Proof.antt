@@ -32,7 +32,7 @@ destination-requires c κs = search needs
 leg-for-requires : tie.Need-leg-for-requires Inv-loop μ-loop
 leg-for-requires c κs =
     let s = c .before .before .before .before .before in
-    (s .pre .1, call-ranged (s .args .part .now) (λ i. c .before .before .before .before .shared-slice-known .given i .fits) (c .before .before .loop .i) (c .destination .ensures) (s .pre .2))
+    (s .pre .1, call-ranged (s .args .part .now) (λ i. c .before .before .before .before .shared-slice-known .given i .fits) _ (c .destination .ensures) (s .pre .2))
 
 cast-k : tie.Need-cast-k Inv-loop μ-loop
 cast-k c = search needs
