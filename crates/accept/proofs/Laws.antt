@@ -5,22 +5,22 @@ use mathlib.Core.Bool.{Bool, true, false, not, _||_, cond}
 use mathlib.Core.List.{List}
 use lib.Dec.{eqb, ltb}
 use lib.ListN.{length, take, drop}
-use borrow.Author.Tests.{lt-ltb, le-ltb, eq-eqb, ne-eqb, ltb-false, eqb-false, not-false}
+use borrow.Author.Tests.{le-leb, lt-ltb, le-ltb, eq-eqb, ne-eqb, ltb-false, eqb-false, not-false}
 use Rattle.lists.specs.Bytes.{Bytes}
 use Rattle.lists.specs.Places.{anyBelow}
 use Rattle.lists.specs.Refusals.{unlessRefused}
-use Rattle.lists.proofs.Bools.{or-no-left}
+use Rattle.lists.proofs.Bools.{or-no-left, and-both}
 use Rattle.lists.proofs.Refusals.{pass, or-refused, taken, refused}
 use Rattle.address.specs.declared.Port.{Port}
 use Rattle.address.specs.declared.Seq.{Seq}
 use Rattle.address.specs.declared.Address.{Address}
-use Rattle.address.specs.Address.{sameAddress}
+use Rattle.address.specs.Address.{inRange, sameAddress}
 use Rattle.envelope.specs.declared.Fixed.{Fixed}
 use Rattle.envelope.specs.Frame.{partAt, fieldsOf, destinationAt}
 use Rattle.envelope.specs.Refusal.{refusalOf}
-use Rattle.envelope.proofs.Laws.{part-bytes, part-from, never-stray}
+use Rattle.envelope.proofs.Laws.{part-bytes, part-from, destination-ranged, never-stray}
 use Rattle.route.specs.declared.Table.{Table}
-use Rattle.route.specs.Route.{tableInRange}
+use Rattle.route.specs.Route.{tableInRange, callInRange}
 use Rattle.ledger.specs.declared.Leg.{Leg}
 use Rattle.ledger.specs.declared.Ledger.{Ledger}
 use Rattle.ledger.specs.Rules.{isOpen, obeys}
@@ -87,6 +87,11 @@ module _ (l : Ledger) (e : Fixed) (arrival : Port) (t : Table) (ticks : ℕ) whe
         pub call-legs : e .ack ≡ true → legsRefusal l e ticks ≡ callRefusal l e false arrival t ticks
         unfolding callRefusal
         call-legs a = rw (ranged, le-ltb 63 (arrival .0) port, rules) (ap (λ (b : Bool). cond b (legsRefusal l e ticks) 0) (sym a))
+
+-- a destination that is read and a port in range are a call in range
+pub call-ranged : (part : List ℕ) → Bytes part → (i : ℕ) → {d : Address} → d ≡ destinationAt part i → {arrival : Port} → arrival .0 ≤ 63 → callInRange d arrival ≡ true
+unfolding callInRange
+call-ranged part b i e h = and-both (ap inRange e ∙ destination-ranged part b i) (le-leb _ _ h)
 
 -- what a call that is not refused says
 pub record Called (l : Ledger) (e : Fixed) (arrival : Port) (t : Table) : Type 0 where

@@ -8,8 +8,10 @@ use ledger::Standing;
 use route::Choice;
 use route::Table;
 ghost use mathlib.Core.Path.{_≡_};
+ghost use mathlib.Core.Bool.{true};
 ghost use Prim.Native.Nat.{_+_, _≤_};
 ghost use Rattle.envelope.specs.Frame.{destinationAt};
+ghost use Rattle.route.specs.Route.{tableInRange, callInRange};
 ghost use Rattle.accept.specs.Accept.{unrouted, legFor, withLegs};
 
 // Whether a choice says that there is no route.
@@ -23,11 +25,12 @@ fn is_unrouted(c: Choice) -> bool
     }
 }
 
-// The leg for a destination.
+// The leg for a destination; table, port and destination were found in range.
 fn leg_for(e: Fixed, arrival: Port, table: Table, ticks: u16, destination: Address) -> Leg
+    requires { ⌜ (tableInRange table ≡ true) × (callInRange destination arrival ≡ true) ⌝ }
     ensures { λ r. ⌜ r ≡ legFor e arrival table ticks destination ⌝ }
 {
-    let c = route::choose(table, destination, arrival);
+    let c = route::way(table, destination, arrival);
     let from = e.source;
     let n = e.seq;
     if is_unrouted(c) {
@@ -57,7 +60,7 @@ pub fn with_legs(
     table: Table,
     ticks: u16,
 ) -> Ledger
-    requires { ⌜ l .count + e .count ≤ 128 ⌝ }
+    requires { ⌜ (l .count + e .count ≤ 128) × (tableInRange table ≡ true) × (arrival .0 ≤ 63) ⌝ }
     ensures { λ r. ⌜ r ≡ withLegs l e (destinationAt (now (part .entry))) arrival table ticks ⌝ }
 {
     let n = e.count;

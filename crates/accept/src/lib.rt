@@ -13,9 +13,9 @@ mod refusing;
 
 // The number, how many legs were added, and the ledger after the call.
 pub struct Accepted {
+    pub ledger: Ledger,
     pub number: u8,
     pub added: u8,
-    pub ledger: Ledger,
 }
 
 // Takes a frame that came in by the arrival port: 1 to 9, 50, 51, 60, 61, 62, 63.

@@ -8,7 +8,7 @@ use lib.Dec.{leb, eqb}
 use borrow.Author.Tests.{leb-true, eqb-true, eq-eqb, ne-eqb, le-leb, lt-leb, not-true, not-false}
 use Rattle.lists.specs.Places.{anyBelow, sameAt, repeatAt, repeats, elementAt, row}
 use Rattle.lists.proofs.Bools.{and-left, and-right, and-both, both-same}
-use Rattle.lists.proofs.Places.{any-agree, any-never, any-false, repeats-agree, row-at}
+use Rattle.lists.proofs.Places.{any-agree, any-never, any-false, any-found, any-more, repeats-agree, row-at}
 use Rattle.address.specs.declared.Seq.{Seq}
 use Rattle.address.specs.declared.Address.{Address}
 use Rattle.address.specs.Address.{inRange, sameAddress, keyOf}
@@ -16,7 +16,7 @@ use Rattle.address.proofs.Laws.{key-same, key-small}
 use Rattle.ledger.specs.declared.Leg.{Leg}
 use Rattle.ledger.specs.declared.Ledger.{Ledger}
 use Rattle.ledger.specs.Rules.{legAt, isOpen, openLeg, alike, ticksRight, legRight, wrongAt, obeys}
-use Rattle.ledger.specs.Keys.{rightKey, wrongKey, legKey, legKeyAt, wrongKeyAt, sameKey}
+use Rattle.ledger.specs.Keys.{legKey, legKeyAt, sameKey}
 
 -- ---- an open leg with this source, destination and sequence number, from the tests on the way
 
@@ -90,8 +90,6 @@ alike-key g h rg rh =
     let a = right g rg in
     let b = right h rh in
     rw (
-      rg,
-      rh,
       key-same (h .source) (g .source) (b .source) (a .source),
       key-same (h .destination) (g .destination) (b .destination) (a .destination),
     )
@@ -100,25 +98,6 @@ alike-key g h rg rh =
     (keyOf (h .source) * 549755813888 + keyOf (h .destination) * 32768 + h .seq .0)
     (packed (keyOf (g .source)) (keyOf (g .destination)) (g .seq .0) (keyOf (h .source)) (keyOf (h .destination)) (h .seq .0)
     (key-small (g .destination) (a .destination)) (key-small (h .destination) (b .destination)) (a .seq) (b .seq)))
-
--- a key is the wrong one exactly where the leg is wrong
-packed-right : (a b c : ℕ) → a < 16777216 → b < 16777216 → c ≤ 32767 → eqb (a * 549755813888 + b * 32768 + c + 1) wrongKey ≡ false
-packed-right a b c ha hb hc = ne-eqb (a * 549755813888 + b * 32768 + c + 1) 18446744073709551615 (λ (e : a * 549755813888 + b * 32768 + c + 1 ≡ 18446744073709551615). omega arith)
-
-right-key : (g : Leg) → Right g → (x : Bool) → eqb (cond x (keyOf (g .source) * 549755813888 + keyOf (g .destination) * 32768 + g .seq .0 + 1) 0) wrongKey ≡ false
-right-key g r true = packed-right (keyOf (g .source)) (keyOf (g .destination)) (g .seq .0) (key-small (g .source) (r .source)) (key-small (g .destination) (r .destination)) (r .seq)
-right-key g r false = refl
-
-key-wrong : (g : Leg) (x : Bool) → x ≡ legRight g → eqb (cond x (rightKey g) wrongKey) wrongKey ≡ not x
-key-wrong g true e = right-key g (right g (sym e)) (isOpen (g .standing))
-key-wrong g false e = refl
-
-pub wrong-keys : (l : Ledger) {keys : List ℕ} → keys ≡ row 128 0 (legKeyAt l) (l .count) → anyBelow (wrongKeyAt (elementAt 0 keys)) (l .count) ≡ anyBelow (wrongAt l) (l .count)
-unfolding legKeyAt wrongKeyAt wrongAt
-wrong-keys l {keys} e =
-    rw e
-    (any-agree (wrongKeyAt (elementAt 0 (row 128 0 (legKeyAt l) (l .count)))) (wrongAt l) (l .count) (λ i h.
-    ap (λ (k : ℕ). eqb k wrongKey) (sym (row-at 128 0 (legKeyAt l) (l .count) i h)) ∙ key-wrong (legAt l i) (legRight (legAt l i)) refl))
 
 -- no leg is wrong: then legs alike are keys alike
 pub legs-right : (l : Ledger) → anyBelow (wrongAt l) (l .count) ≡ false → (i : ℕ) → i < l .count → legRight (legAt l i) ≡ true
@@ -152,9 +131,13 @@ module _ (l : Ledger) where
   unfolding obeys
   too-many h = rw (lt-leb (l .count) 128 h)
 
-  pub wrong-leg : l .count ≤ 128 → anyBelow (wrongAt l) (l .count) ≡ true → false ≡ obeys l
-  unfolding obeys
-  wrong-leg h w = rw (le-leb (l .count) 128 h, w)
+  pub wrong-leg : l .count ≤ 128 → (i : ℕ) → i < l .count → legRight (legAt l i) ≡ false → false ≡ obeys l
+  unfolding obeys wrongAt
+  wrong-leg h i k w = rw (le-leb (l .count) 128 h, any-found (wrongAt l) (l .count) i k (rw w))
+
+  pub right-next : (i : ℕ) → anyBelow (wrongAt l) i ≡ false → legRight (legAt l i) ≡ true → anyBelow (wrongAt l) (i + 1) ≡ false
+  unfolding wrongAt
+  right-next i h r = any-more (wrongAt l) i h (rw r)
 
   pub by-alike : l .count ≤ 128 → anyBelow (wrongAt l) (l .count) ≡ false → {b : Bool} → b ≡ repeats alike (legAt l) (l .count) → not b ≡ obeys l
   unfolding obeys

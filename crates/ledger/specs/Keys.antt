@@ -1,29 +1,18 @@
--- The keys of legs, one number for each, by which the code sees whether a leg is wrong, and whether two open legs are alike.
+-- The keys of legs, one number for each, by which the code sees whether two open legs are alike.
 use Prim.Native.Nat.{ℕ, _+_, _*_}
 use mathlib.Core.Bool.{Bool, _&&_, not, cond}
 use lib.Dec.{eqb}
 use Rattle.address.specs.Address.{keyOf}
 use Rattle.ledger.specs.declared.Leg.{Leg}
 use Rattle.ledger.specs.declared.Ledger.{Ledger}
-use Rattle.ledger.specs.Rules.{isOpen, legAt, legRight}
+use Rattle.ledger.specs.Rules.{isOpen, legAt}
 
 -- of an open leg one more than the 63 bits of source, destination and sequence number; of a settled one 0
-abbrev pub rightKey : Leg → ℕ
-rightKey g = cond (isOpen (g .standing)) (keyOf (g .source) * 549755813888 + keyOf (g .destination) * 32768 + g .seq .0 + 1) 0
-
--- the key of a wrong leg, which no other has
-abbrev pub wrongKey : ℕ
-wrongKey = 18446744073709551615
-
 abbrev pub legKey : Leg → ℕ
-legKey g = cond (legRight g) (rightKey g) wrongKey
+legKey g = cond (isOpen (g .standing)) (keyOf (g .source) * 549755813888 + keyOf (g .destination) * 32768 + g .seq .0 + 1) 0
 
 unfoldable pub legKeyAt : Ledger → ℕ → ℕ
 legKeyAt l i = legKey (legAt l i)
-
--- the key at a place is the wrong one
-unfoldable pub wrongKeyAt : (ℕ → ℕ) → ℕ → Bool
-wrongKeyAt d i = eqb (d i) wrongKey
 
 -- two keys are the same, and not those of settled legs
 unfoldable pub sameKey : ℕ → ℕ → Bool

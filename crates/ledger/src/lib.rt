@@ -30,16 +30,16 @@ pub struct Leg {
     pub standing: Standing,
 }
 
-// The first `count` places hold legs, oldest first.
+// The first `count` places hold legs, oldest first. Here, and in what holds a ledger, the larger field stands first: with no gap between fields the compiler makes fewer copies.
 pub struct Ledger {
-    pub count: u8,
     pub legs: [Leg; 128],
+    pub count: u8,
 }
 
 // What answer and clear give: the number, and the ledger after the call.
 pub struct Outcome {
-    pub number: u8,
     pub ledger: Ledger,
+    pub number: u8,
 }
 
 // What stands at a place with no leg.

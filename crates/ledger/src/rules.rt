@@ -2,8 +2,7 @@
 use crate::Ledger;
 use crate::Leg;
 use crate::Standing;
-use crate::keys::any_wrong;
-use crate::keys::keys_of;
+use crate::keys::leg_key;
 use crate::keys::repeated;
 use address::Address;
 use address::LARGEST_SEQ;
@@ -55,7 +54,7 @@ fn ticks_right(g: Leg) -> bool
 }
 
 // Whether its ticks, addresses and sequence number are right.
-pub fn leg_right(g: Leg) -> bool
+fn leg_right(g: Leg) -> bool
     ensures { λ r. ⌜ r ≡ legRight g ⌝ }
 {
     if !ticks_right(g) {
@@ -70,7 +69,7 @@ pub fn leg_right(g: Leg) -> bool
     g.seq.0 <= LARGEST_SEQ
 }
 
-// Whether the ledger obeys its rules.
+// Whether the ledger obeys its rules: each leg is right, and no two of their keys are alike.
 pub fn obeys_rules(l: Ledger) -> bool
     ensures { λ r. ⌜ r ≡ obeys l ⌝ }
 {
@@ -78,9 +77,15 @@ pub fn obeys_rules(l: Ledger) -> bool
         return false;
     }
     let n = l.count as usize;
-    let keys = keys_of(l);
-    if any_wrong(&keys, n) {
-        return false;
+    let mut keys = [0u64; 128];
+    let mut i: usize = 0;
+    while i < n {
+        let g = l.legs[i];
+        if !leg_right(g) {
+            return false;
+        }
+        keys[i] = leg_key(g);
+        i += 1;
     }
     !repeated(&keys, n)
 }

@@ -1,16 +1,14 @@
 // The image of a ledger, 1,921 bytes: whether it can be read, the ledger in it, and that ledger put back after a call.
 use ledger::Ledger;
-use ledger::Leg;
 use ledger::MOST_LEGS;
 use legs::leg_bytes;
 use legs::leg_in;
 use legs::stray_leg;
 ghost use mathlib.Core.Path.{_≡_};
-ghost use mathlib.Core.Bool.{true};
 ghost use Prim.Native.Nat.{_≤_};
 ghost use lib.ListN.{length};
 ghost use Rattle.lists.specs.Places.{anyBelow};
-ghost use Rattle.ledger_image.specs.Ledger.{strayLegAt, readableLedger, ledgerIn, ledgerOf, withLegs, ledgerAfter};
+ghost use Rattle.ledger_image.specs.Ledger.{strayLegAt, readableLedger, ledgerOf, withLegs, ledgerAfter};
 
 mod legs;
 
@@ -45,38 +43,27 @@ fn readable_ledger(b: &[u8]) -> bool
     !any_stray(b, n as usize)
 }
 
-// The ledger in an image that can be read, with no leg at the other places.
-fn read_ledger(b: &[u8]) -> Ledger
-    requires { ⌜ readableLedger (now b) ≡ true ⌝ }
-    ensures { λ r. ⌜ r ≡ ledgerIn (now (b .entry)) ⌝ }
-{
-    let count = b[0];
-    let n = count as usize;
-    let none = ledger::no_leg();
-    let legs = [none; 128];
-    let mut l = Ledger { count, legs };
-    let mut i = 0;
-    while i < n {
-        let g = leg_in(b, 1 + 15 * i);
-        l.legs[i] = g;
-        i += 1;
-    }
-    l
-}
-
-// The ledger in an image; where it can't be read, one with a leg too many.
+// The ledger in an image, with no leg at the places past the count; where it can't be read, one with a leg too many.
 pub fn ledger_of(b: &[u8]) -> Ledger
     ensures { λ r. ⌜ r ≡ ledgerOf (now (b .entry)) ⌝ }
 {
-    if readable_ledger(b) {
-        return read_ledger(b);
-    }
     let none = ledger::no_leg();
-    let legs = [none; 128];
-    Ledger {
-        count: MOST_LEGS + 1,
-        legs,
+    let mut legs = [none; 128];
+    if !readable_ledger(b) {
+        return Ledger {
+            legs,
+            count: MOST_LEGS + 1,
+        };
     }
+    let count = b[0];
+    let n = count as usize;
+    let mut i = 0;
+    while i < n {
+        let g = leg_in(b, 1 + 15 * i);
+        legs[i] = g;
+        i += 1;
+    }
+    Ledger { legs, count }
 }
 
 // The count and the first n legs are written.

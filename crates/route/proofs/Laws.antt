@@ -3,7 +3,7 @@ use Prim.Native.Nat.{ℕ, _<_, _≤_}
 use mathlib.Core.Path.{_≡_, refl, sym, ap, _∙_}
 use mathlib.Core.Bool.{Bool, true, false, not, _||_, cond}
 use lib.ListN.{length, getD}
-use borrow.Author.Tests.{leb-true}
+use borrow.Author.Tests.{leb-true, le-leb, lt-leb}
 use Rattle.lists.specs.Places.{anyBelow}
 use Rattle.lists.specs.Refusals.{refuse, unlessRefused}
 use Rattle.lists.proofs.Bools.{and-left}
@@ -14,7 +14,7 @@ use Rattle.route.specs.declared.Entry.{Entry}
 use Rattle.route.specs.declared.Table.{Table}
 use Rattle.route.specs.declared.Choice.{Choice}
 use Rattle.route.specs.declared.Choice.the-variants.{Local, Out, Refused}
-use Rattle.route.specs.Route.{noEntry, entryAt, isOwn, qualifies, qualifiesAt, hasRoute, outPort, outOf, entryInRange, strayEntry, tableInRange, callInRange, chooseOf, routeRefusal, wayPort, choiceNumber, choiceLocal, choicePort}
+use Rattle.route.specs.Route.{noEntry, entryAt, isOwn, qualifies, qualifiesAt, hasRoute, outPort, outOf, wayOf, entryInRange, strayEntry, tableInRange, callInRange, chooseOf, routeRefusal, wayPort, choiceNumber, choiceLocal, choicePort}
 
 -- ---- the way out
 
@@ -80,6 +80,27 @@ module _ (t : Table) (d : Address) (arrival : Port) where
     pub chosen-out : callInRange d arrival ≡ true → isOwn t d ≡ false → chooseOf t d arrival ≡ outOf t d arrival
     unfolding chooseOf
     chosen-out h k = rw (table, h, k)
+
+    -- of a table and a call in range it is the way
+    pub chosen-way : callInRange d arrival ≡ true → chooseOf t d arrival ≡ wayOf t d arrival
+    unfolding chooseOf wayOf
+    chosen-way h = rw (table, h, le-leb (t .count) 32 (count-le t table))
+
+-- ---- the way, case by case
+
+module _ (t : Table) (d : Address) (arrival : Port) where
+  pub way-50 : 32 < t .count → wayOf t d arrival ≡ Refused 50
+  unfolding wayOf
+  way-50 h = rw (lt-leb (t .count) 32 h)
+
+  module _ (few : t .count ≤ 32) where
+    pub way-here : isOwn t d ≡ true → wayOf t d arrival ≡ Local (d .port)
+    unfolding wayOf
+    way-here k = rw (le-leb (t .count) 32 few, k)
+
+    pub way-by : isOwn t d ≡ false → wayOf t d arrival ≡ outOf t d arrival
+    unfolding wayOf
+    way-by k = rw (le-leb (t .count) 32 few, k)
 
 -- ---- what a choice says
 

@@ -66,6 +66,13 @@ module _ (t : Table) (d : Address) (arrival : Port) where
   unfoldable pub outOf : Choice
   outOf = cond hasRoute (Out outPort) (Refused 52)
 
+  -- the choice where table and call are in range: local at the destination's port, or the way out. A table that counts more entries than it has is 50
+  unfoldable pub wayOf : Choice
+  wayOf =
+      cond (not (leb (t .count) mostEntries)) (Refused 50)
+      (cond (isOwn t d) (Local (d .port))
+      outOf)
+
 -- ---- the refusals
 
 -- a node that is named is at most 1023

@@ -8,7 +8,7 @@ use entries::way_out;
 ghost use mathlib.Core.Path.{_≡_};
 ghost use mathlib.Core.Bool.{false};
 ghost use Rattle.lists.specs.Refusals.{unlessRefused};
-ghost use Rattle.route.specs.Route.{ownStation, isOwn, chooseOf, choiceNumber, choiceLocal, choicePort, routeRefusal, wayPort};
+ghost use Rattle.route.specs.Route.{ownStation, isOwn, wayOf, chooseOf, choiceNumber, choiceLocal, choicePort, routeRefusal, wayPort};
 
 mod entries;
 mod ranges;
@@ -29,11 +29,11 @@ pub struct Entry {
     pub on: bool,
 }
 
-// The own brigade and node, and the entries in order. Those past the count are not looked at.
+// The own brigade and node, and the entries in order. Those past the count are not looked at. (In this order no gap lies between the fields.)
 pub struct Table {
     pub brigade: u8,
-    pub node: Node,
     pub count: u8,
+    pub node: Node,
     pub entries: [Entry; 32],
 }
 
@@ -62,6 +62,20 @@ fn is_own(t: Table, d: Address) -> bool
     address::same_station(own_station(t), address::station_of(d))
 }
 
+// The choice for a table, a destination and a port that were found in range: local, or out, or 52. Only a count past the last place is refused here too, with 50.
+pub fn way(table: Table, destination: Address, arrival: Port) -> Choice
+    ensures { λ r. ⌜ r ≡ wayOf table destination arrival ⌝ }
+{
+    if MOST_ENTRIES < table.count {
+        return Choice::Refused(50);
+    }
+    if is_own(table, destination) {
+        let p = destination.port;
+        return Choice::Local(p);
+    }
+    way_out(table, destination, arrival)
+}
+
 // Where a message for the destination goes that came in by the arrival port (0: it began here), or 50, 51 or 52.
 pub fn choose(table: Table, destination: Address, arrival: Port) -> Choice
     ensures { λ r. ⌜ r ≡ chooseOf table destination arrival ⌝ }
@@ -78,9 +92,5 @@ pub fn choose(table: Table, destination: Address, arrival: Port) -> Choice
     if LARGEST_PORT < arrival.0 {
         return Choice::Refused(51);
     }
-    if is_own(table, destination) {
-        let p = destination.port;
-        return Choice::Local(p);
-    }
-    way_out(table, destination, arrival)
+    way(table, destination, arrival)
 }

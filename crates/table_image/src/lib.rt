@@ -6,12 +6,11 @@ use route::MOST_ENTRIES;
 use route::Table;
 use route::Target;
 ghost use mathlib.Core.Path.{_≡_};
-ghost use mathlib.Core.Bool.{true};
 ghost use Prim.Native.Nat.{_+_, _≤_};
 ghost use lib.ListN.{length};
-ghost use Rattle.lists.specs.Places.{anyBelow, row};
+ghost use Rattle.lists.specs.Places.{anyBelow};
 ghost use Rattle.route.specs.Route.{noEntry};
-ghost use Rattle.table_image.specs.Table.{targetOf, entryIn, strayEntryIn, heldEntry, strayEntryAt, readableTable, tableIn, tableOf};
+ghost use Rattle.table_image.specs.Table.{targetOf, entryIn, strayEntryIn, strayEntryAt, readableTable, tableOf};
 
 const TABLE_SIZE: usize = 196;
 
@@ -91,51 +90,33 @@ fn no_entry() -> Entry
     }
 }
 
-// The first n entries in an image, and no entry at the other places.
-fn entries_in(b: &[u8], n: usize) -> [Entry; 32]
-    requires { ⌜ (n ≤ 32) × (196 ≤ length (now b)) ⌝ }
-    ensures { λ r. ⌜ r ≡ row 32 noEntry (heldEntry (now (b .entry))) n ⌝ }
+// The table in an image, with no entry at the places past the count; where it can't be read, one with an entry too many.
+pub fn table_of(b: &[u8]) -> Table
+    ensures { λ r. ⌜ r ≡ tableOf (now (b .entry)) ⌝ }
 {
     let none = no_entry();
     let mut entries = [none; 32];
+    if !readable_table(b) {
+        return Table {
+            brigade: 0,
+            count: MOST_ENTRIES + 1,
+            node: Node(0),
+            entries,
+        };
+    }
+    let count = b[3];
+    let n = count as usize;
     let mut i = 0;
     while i < n {
         let e = entry_in(b, 4 + 6 * i);
         entries[i] = e;
         i += 1;
     }
-    entries
-}
-
-// The table in an image that can be read.
-fn read_table(b: &[u8]) -> Table
-    requires { ⌜ readableTable (now b) ≡ true ⌝ }
-    ensures { λ r. ⌜ r ≡ tableIn (now (b .entry)) ⌝ }
-{
-    let n = b[3];
     let node = lists::word_at(b, 1);
-    let entries = entries_in(b, n as usize);
     Table {
         brigade: b[0],
+        count,
         node: Node(node),
-        count: n,
-        entries,
-    }
-}
-
-// The table in an image; where it can't be read, one with an entry too many.
-pub fn table_of(b: &[u8]) -> Table
-    ensures { λ r. ⌜ r ≡ tableOf (now (b .entry)) ⌝ }
-{
-    if readable_table(b) {
-        return read_table(b);
-    }
-    let none = no_entry();
-    let entries = [none; 32];
-    Table {
-        brigade: 0,
-        node: Node(0),
-        count: MOST_ENTRIES + 1,
         entries,
     }
 }

@@ -16,9 +16,9 @@ pub struct Ticks {
 
 // What tick gives: the number, how many legs timed out in this tick, and the ledger after it.
 pub struct Ticked {
+    pub ledger: Ledger,
     pub number: u8,
     pub ended: u8,
-    pub ledger: Ledger,
 }
 
 // Whether the leg times out in the next tick.

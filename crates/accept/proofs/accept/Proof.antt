@@ -69,7 +69,8 @@ part-with-legs-end c = search needs
 with-legs-requires : tie.Need-with-legs-requires
 with-legs-requires c κs =
     let z = sym (c .before .before .before .before .call-refusal .ensures) ∙ c .before .before .before .if1 .left in
-    omega (arith, roomy _ _ _ _ _ _ z (not-false _ (c .before .if2 .left)) .room, obedient _ (called _ _ _ _ _ _ z .rules) .few)
+    let k = called _ _ _ _ _ _ z in
+    (omega (arith, roomy _ _ _ _ _ _ z (not-false _ (c .before .if2 .left)) .room, obedient _ (k .rules) .few), k .table, k .port)
 
 returns-4 : tie.Need-returns-4
 returns-4 c =

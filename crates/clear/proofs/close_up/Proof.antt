@@ -18,7 +18,7 @@ abbrev μ-loop : tie.MeasureT-loop
 -- the array holds all the legs that count
 enough : (s : tie.Start Inv-loop μ-loop) → s .args .l .count ≤ length (s .args .l .legs)
 enough s =
-    let h : length (s .args .l .legs) ≡ 128 = simp length-map at (s .good .0 .1 .1 .1 .0 .1 .0 .1) in
+    let h : length (s .args .l .legs) ≡ 128 = simp length-map at (s .good .0 .1 .1 .0 .1 .0 .1) in
     omega arith
 
 sub-count : tie.Need-sub-count Inv-loop μ-loop

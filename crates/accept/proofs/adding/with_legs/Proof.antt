@@ -6,6 +6,7 @@ use Rattle.lists.specs.Places.{firsts}
 use Rattle.lists.proofs.Stores.{firsts-stored}
 use Rattle.envelope.specs.Frame.{destinationAt}
 use Rattle.accept.specs.Accept.{legForAt, withLegs}
+use Rattle.accept.proofs.Laws.{call-ranged}
 use native.Mathlib.Omega.{arith}
 use borrow.Author.Needs.{needs}
 use Rattle.accept.proofs.adding.with_legs.Statement.{statement}
@@ -29,7 +30,9 @@ destination-requires : tie.Need-destination-requires Inv-loop μ-loop
 destination-requires c κs = search needs
 
 leg-for-requires : tie.Need-leg-for-requires Inv-loop μ-loop
-leg-for-requires c κs = search needs
+leg-for-requires c κs =
+    let s = c .before .before .before .before .before in
+    (s .pre .1, call-ranged (s .args .part .now) (λ i. c .before .before .before .before .shared-slice-known .given i .fits) _ (c .destination .ensures) (s .pre .2))
 
 cast-k : tie.Need-cast-k Inv-loop μ-loop
 cast-k c = search needs
