@@ -13,7 +13,7 @@ use std::mem::swap;
 
 pub const GROUPS: &[Tests] = &[("ledger sequences", sequences)];
 
-const SEQUENCES: usize = 30;
+const SEQUENCES: usize = 12;
 const CALLS: usize = 5_000;
 
 // How often each call is made, in a stretch of calls.

@@ -1,33 +1,25 @@
--- The theorem of the door on images that can't be read: unreadable. Such an image stands for a table with an entry too many, or for a ledger with a leg too many.
-use mathlib.Core.Path.{_≡_, refl, _∙_}
+-- The theorem of the ledger's calls on an image that can't be read: unreadable. Such an image stands for a ledger with a leg too many.
+use mathlib.Core.Path.{_≡_}
 use mathlib.Core.Bool.{false}
 use mathlib.Core.List.{List}
 use Prim.Native.Nat.{ℕ}
-use Rattle.address.specs.declared.Port.{Port}
-use Rattle.address.specs.declared.Address.{Address}
-use Rattle.route.specs.Route.{tableInRange, chooseOf, choiceNumber}
 use Rattle.ledger.specs.Rules.{obeys}
-use Rattle.table_image.specs.Table.{readableTable, tableOf}
+use Rattle.table_image.specs.Table.{tableOf}
 use Rattle.ledger_image.specs.Ledger.{readableLedger, ledgerOf}
 use Rattle.ledger_laws.specs.Calls.{accepting, answering, ticking, clearing, numberOf}
 use Rattle.ledger_laws.specs.Promises.{brokenNumber}
 use Rattle.ledger_laws.proofs.Promises.{rules-broken}
-use Rattle.ledger_door.specs.Calls.{chooseFor, chooseNumberFor, answerFor, tickFor, clearFor, acceptFor}
+use Rattle.ledger_door.specs.Calls.{answerFor, tickFor, clearFor, acceptFor}
 use Rattle.ledger_door.specs.Promises.{Unreadable}
 
 broken : (b : List ℕ) → readableLedger b ≡ false → obeys (ledgerOf b) ≡ false
 unfolding ledgerOf obeys
 broken b h = rw h
 
-unchosen : (b : List ℕ) (d : Address) (arrival : Port) → readableTable b ≡ false → choiceNumber (chooseOf (tableOf b) d arrival) ≡ 50
-unfolding tableOf chooseOf tableInRange
-unchosen b d arrival h = rw h
-
 pub unreadable : Unreadable
-unfolding chooseFor chooseNumberFor answerFor tickFor clearFor acceptFor numberOf brokenNumber
+unfolding answerFor tickFor clearFor acceptFor numberOf brokenNumber
 unreadable =
     record {
-      choose = unchosen;
       answer = λ b by to seq reply h. rules-broken (ledgerOf b) (answering by to seq reply) (broken b h);
       tick = λ b h. rules-broken (ledgerOf b) ticking (broken b h);
       clear = λ b place h. rules-broken (ledgerOf b) (clearing place) (broken b h);

@@ -1,5 +1,6 @@
--- What C gets of the calls over a table and over a ledger (include/poztecameh.h): an image stands for a table or a ledger, whose own call answers. What C gets of
--- pz_read and pz_write stands in envelope_image.
+-- What C gets of the calls over a ledger (include/poztecameh.h): the number and the numbers beside it are those of the ledger's own call. A refusal leaves the image;
+-- else the legs that counted before the call are written, so that after a clear the place that it freed is among them, with the 15 zeros of no leg; after an accept those
+-- that count now.
 use Prim.Native.Nat.{ℕ}
 use mathlib.Core.Bool.{cond}
 use mathlib.Core.List.{List}
@@ -7,8 +8,6 @@ use lib.Dec.{eqb}
 use Rattle.address.specs.declared.Port.{Port}
 use Rattle.address.specs.declared.Seq.{Seq}
 use Rattle.address.specs.declared.Address.{Address}
-use Rattle.route.specs.declared.Choice.{Choice}
-use Rattle.route.specs.Route.{chooseOf, choiceNumber, choiceLocal, choicePort}
 use Rattle.answer.specs.declared.Reply.{Reply}
 use Rattle.answer.specs.declared.Reply.the-variants.{Ack, Nak}
 use Rattle.ledger.specs.declared.Outcome.{Outcome}
@@ -20,24 +19,6 @@ use Rattle.accept.specs.declared.Accepted.{Accepted}
 use Rattle.accept.specs.Accept.{acceptOf}
 use Rattle.table_image.specs.Table.{tableOf}
 use Rattle.ledger_image.specs.Ledger.{ledgerOf, ledgerAfter}
-
--- ---- pz_choose: the choice's number; 1 where it is local; its port. Zeros beside a refusal
-
-module _ (b : List ℕ) (d : Address) (arrival : Port) where
-  unfoldable pub chooseFor : Choice
-  chooseFor = chooseOf (tableOf b) d arrival
-
-  unfoldable pub chooseNumberFor : ℕ
-  chooseNumberFor = choiceNumber chooseFor
-
-  unfoldable pub localFor : ℕ
-  localFor = cond (choiceLocal chooseFor) 1 0
-
-  unfoldable pub outFor : ℕ
-  outFor = choicePort chooseFor
-
--- ---- the ledger's calls: the number and the numbers beside it are those of the ledger's own call. A refusal leaves the image; else the legs that counted before
--- the call are written, so that after a clear the place that it freed is among them, with the 15 zeros of no leg; after an accept those that count now
 
 -- nak 0 is an ACK, any other number a NAK
 unfoldable pub replyOf : ℕ → ℕ → ℕ → Reply

@@ -1,4 +1,4 @@
--- What an image that can't be read gets: the number of a table out of range, or of a ledger that breaks its rules, each in its turn. proofs/Promises.antt has the theorem.
+-- What an image that can't be read gets: the number of a ledger that breaks its rules, in its turn. proofs/Promises.antt has the theorem.
 use mathlib.Core.Path.{_≡_}
 use mathlib.Core.Bool.{false}
 use mathlib.Core.List.{List}
@@ -7,14 +7,13 @@ use Rattle.address.specs.declared.Port.{Port}
 use Rattle.address.specs.declared.Seq.{Seq}
 use Rattle.address.specs.declared.Address.{Address}
 use Rattle.answer.specs.declared.Reply.{Reply}
-use Rattle.table_image.specs.Table.{readableTable, tableOf}
+use Rattle.table_image.specs.Table.{tableOf}
 use Rattle.ledger_image.specs.Ledger.{readableLedger}
 use Rattle.ledger_laws.specs.Calls.{accepting}
 use Rattle.ledger_laws.specs.Promises.{brokenNumber}
-use Rattle.ledger_door.specs.Calls.{chooseNumberFor, answerFor, tickFor, clearFor, acceptFor}
+use Rattle.ledger_door.specs.Calls.{answerFor, tickFor, clearFor, acceptFor}
 
 pub record Unreadable : Type 0 where
-  pub choose : (b : List ℕ) (d : Address) (arrival : Port) → readableTable b ≡ false → chooseNumberFor b d arrival ≡ 50
   pub answer : (b : List ℕ) (by to : Address) (seq : Seq) (reply : Reply) → readableLedger b ≡ false → answerFor b by to seq reply .number ≡ 60
   pub tick : (b : List ℕ) → readableLedger b ≡ false → tickFor b .number ≡ 60
   pub clear : (b : List ℕ) (place : ℕ) → readableLedger b ≡ false → clearFor b place .number ≡ 60

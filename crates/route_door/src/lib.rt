@@ -1,11 +1,11 @@
-// The next route, by the image of a table.
+// What C calls for the next route (include/poztecameh.h): the choice by the table that an image stands for.
 use address::Address;
 use address::Node;
 use address::Port;
 use route::Choice;
 ghost use mathlib.Core.Path.{_≡_};
 ghost use Rattle.address.specs.Address.{addressOf};
-ghost use Rattle.ledger_door.specs.Calls.{chooseNumberFor, localFor, outFor};
+ghost use Rattle.route_door.specs.Calls.{chooseNumberFor, localFor, outFor};
 
 // Where a message for the destination goes that came in by the arrival port: `local` 1, for this node at port `out`, or 0, out by port `out`.
 #[no_mangle]

@@ -1,8 +1,8 @@
--- `door::ledgers::pz_clear` meets its contract: the ledger's own clear is put back.
+-- `ledger_door::pz_clear` meets its contract: the ledger's own clear is put back.
 use Rattle.ledger_door.proofs.Laws.{clear-put}
 use borrow.Author.Needs.{needs}
-use Rattle.ledger_door.proofs.ledgers.pz_clear.Statement.{statement}
-use Rattle.ledger_door.proofs.ledgers.pz_clear.Tie as tie
+use Rattle.ledger_door.proofs.pz_clear.Statement.{statement}
+use Rattle.ledger_door.proofs.pz_clear.Tie as tie
 
 ledger-of-requires : tie.Need-ledger-of-requires
 ledger-of-requires c κs = search needs

@@ -1,8 +1,8 @@
--- `door::ledgers::reply_of` meets its contract: nak 0 is an ACK.
+-- `ledger_door::reply_of` meets its contract: nak 0 is an ACK.
 use borrow.Author.Tests.{eq-eqb, ne-eqb}
 use Rattle.ledger_door.specs.Calls.{replyOf}
-use Rattle.ledger_door.proofs.ledgers.reply_of.Statement.{statement}
-use Rattle.ledger_door.proofs.ledgers.reply_of.Tie as tie
+use Rattle.ledger_door.proofs.reply_of.Statement.{statement}
+use Rattle.ledger_door.proofs.reply_of.Tie as tie
 
 returns : tie.Need-returns
 unfolding replyOf

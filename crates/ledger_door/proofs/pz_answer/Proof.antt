@@ -1,10 +1,10 @@
--- `door::ledgers::pz_answer` meets its contract: the ledger's own answer is put back.
+-- `ledger_door::pz_answer` meets its contract: the ledger's own answer is put back.
 use Rattle.address.specs.Address.{addressOf}
 use Rattle.ledger_door.specs.Calls.{replyOf}
 use Rattle.ledger_door.proofs.Laws.{answer-put}
 use borrow.Author.Needs.{needs}
-use Rattle.ledger_door.proofs.ledgers.pz_answer.Statement.{statement}
-use Rattle.ledger_door.proofs.ledgers.pz_answer.Tie as tie
+use Rattle.ledger_door.proofs.pz_answer.Statement.{statement}
+use Rattle.ledger_door.proofs.pz_answer.Tie as tie
 
 ledger-of-requires : tie.Need-ledger-of-requires
 ledger-of-requires c κs = search needs

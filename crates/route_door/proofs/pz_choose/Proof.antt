@@ -1,9 +1,9 @@
--- `door::tables::pz_choose` meets its contract: the choice's own numbers are what C gets.
+-- `route_door::pz_choose` meets its contract: the choice's own numbers are what C gets.
 use Rattle.address.specs.Address.{addressOf}
-use Rattle.ledger_door.proofs.Laws.{Says, choose-told}
+use Rattle.route_door.proofs.Laws.{Says, choose-told}
 use borrow.Author.Needs.{needs}
-use Rattle.ledger_door.proofs.tables.pz_choose.Statement.{statement}
-use Rattle.ledger_door.proofs.tables.pz_choose.Tie as tie
+use Rattle.route_door.proofs.pz_choose.Statement.{statement}
+use Rattle.route_door.proofs.pz_choose.Tie as tie
 
 -- the choice's numbers, whichever it is
 told : (c : tie.After-choose) → Says (c .before .before .before .args .table .now) (addressOf (c .before .before .before .args .brigade) (c .before .before .before .args .node) (c .before .before .before .args .port)) (record { 0 = c .before .before .before .args .arrival }) (c .choose .result)

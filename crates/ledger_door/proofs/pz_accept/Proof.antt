@@ -1,8 +1,8 @@
--- `door::ledgers::pz_accept` meets its contract: what accept gives of the two images is put back.
+-- `ledger_door::pz_accept` meets its contract: what accept gives of the two images is put back.
 use Rattle.ledger_door.proofs.Laws.{accept-put}
 use borrow.Author.Needs.{needs}
-use Rattle.ledger_door.proofs.ledgers.pz_accept.Statement.{statement}
-use Rattle.ledger_door.proofs.ledgers.pz_accept.Tie as tie
+use Rattle.ledger_door.proofs.pz_accept.Statement.{statement}
+use Rattle.ledger_door.proofs.pz_accept.Tie as tie
 
 table-of-requires : tie.Need-table-of-requires
 table-of-requires c κs = search needs

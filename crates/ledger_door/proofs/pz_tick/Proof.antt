@@ -1,8 +1,8 @@
--- `door::ledgers::pz_tick` meets its contract: the ledger's own tick is put back.
+-- `ledger_door::pz_tick` meets its contract: the ledger's own tick is put back.
 use Rattle.ledger_door.proofs.Laws.{tick-put}
 use borrow.Author.Needs.{needs}
-use Rattle.ledger_door.proofs.ledgers.pz_tick.Statement.{statement}
-use Rattle.ledger_door.proofs.ledgers.pz_tick.Tie as tie
+use Rattle.ledger_door.proofs.pz_tick.Statement.{statement}
+use Rattle.ledger_door.proofs.pz_tick.Tie as tie
 
 ledger-of-requires : tie.Need-ledger-of-requires
 ledger-of-requires c κs = search needs
