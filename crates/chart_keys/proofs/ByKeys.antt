@@ -21,8 +21,8 @@ use Rattle.chart.specs.declared.Link.{Link}
 use Rattle.chart.specs.declared.Nodes.{Nodes}
 use Rattle.chart.specs.declared.Links.{Links}
 use Rattle.chart.specs.Values.{noNode, noLink, nodeAt, linkAt, standsAt, written, isEnd, endsAt, used}
-use Rattle.chart.specs.Numbers.{bothWritten, eitherUsed, nodeNumber, linkNumber, questionNumber}
-use Rattle.chart_keys.specs.Keys.{stationKey, endKey, nodeKeyAt, KeysOf, StationKeyed, EndKeyed, KeyedNodes, KeyedLinks, keyIs, known, bothKnown, usedBy, eitherBy, nodeBy, linkBy, questionBy}
+use Rattle.chart.specs.Numbers.{bothWritten, eitherUsed, nodeBy, linkBy, questionBy, nodeNumber, linkNumber, questionNumber}
+use Rattle.chart_keys.specs.Keys.{stationKey, endKey, nodeKeyAt, KeysOf, StationKeyed, EndKeyed, KeyedNodes, KeyedLinks, keyIs, known, bothKnown, usedBy, eitherBy, nodeByKeys, linkByKeys, questionByKeys}
 
 -- ---- as the code has them: with the key at hand
 
@@ -101,13 +101,13 @@ module _ (ns : Nodes) (keys : List ℕ) (h : KeyedNodes ns keys) where
   unfolding bothKnown bothWritten
   both-keyed s t f g = ap₂ _&&_ (known-written s f) (known-written t g)
 
-  pub node-keyed : (late : Bool) (n : ChartNode) → n .station .node .0 ≤ 65535 → nodeBy late (ns .count) (known keys (ns .count) (n .station)) n ≡ nodeNumber late ns n
-  unfolding nodeBy nodeNumber
+  pub node-keyed : (late : Bool) (n : ChartNode) → n .station .node .0 ≤ 65535 → nodeByKeys late keys (ns .count) n ≡ nodeNumber late ns n
+  unfolding nodeByKeys nodeNumber
   node-keyed late n f = ap (λ (w : Bool). nodeBy late (ns .count) w n) (known-written (n .station) f)
 
   pub question-keyed : (late : Bool) (s t : Station) → s .node .0 ≤ 65535 → t .node .0 ≤ 65535
-      → questionBy late (ns .count) (bothKnown keys (ns .count) s t) s t ≡ questionNumber late ns s t
-  unfolding questionBy questionNumber
+      → questionByKeys late keys (ns .count) s t ≡ questionNumber late ns s t
+  unfolding questionByKeys questionNumber
   question-keyed late s t f g = ap (λ (w : Bool). questionBy late (ns .count) w s t) (both-keyed s t f g)
 
   module _ (ls : Links) (near far : List ℕ) (g : KeyedLinks ls near far) where
@@ -124,8 +124,8 @@ module _ (ns : Nodes) (keys : List ℕ) (h : KeyedNodes ns keys) where
     either-keyed l j k ha hb = ap₂ _||_ (used-keyed (l .a) j ha) (used-keyed (l .b) k hb)
 
     pub link-keyed : (late : Bool) (l : Link) (j k : ℕ) → EndKeyed (l .a) j → EndKeyed (l .b) k
-        → linkBy late (ns .count) (ls .count) (bothKnown keys (ns .count) (stationOf (l .a)) (stationOf (l .b))) (eitherBy near far (ls .count) l) l ≡ linkNumber late ns ls l
-    unfolding linkBy linkNumber
+        → linkByKeys late keys (ns .count) near far (ls .count) l ≡ linkNumber late ns ls l
+    unfolding linkByKeys linkNumber
     link-keyed late l j k ha hb =
         ap₂ (λ (x y : Bool). linkBy late (ns .count) (ls .count) x y l)
         (both-keyed (stationOf (l .a)) (stationOf (l .b)) (ha .node) (hb .node))
