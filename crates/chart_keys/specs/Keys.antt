@@ -3,9 +3,9 @@ use Prim.Native.Nat.{ℕ, _+_, _*_, _<_, _≤_}
 use mathlib.Core.Path.{_≡_}
 use mathlib.Core.List.{List}
 use mathlib.Core.Bool.{Bool, _&&_, _||_}
-use lib.ListN.{getD}
+use lib.ListN.{length, getD}
 use lib.Dec.{eqb}
-use Rattle.lists.specs.Places.{anyBelow, row}
+use Rattle.lists.specs.Places.{anyBelow}
 use Rattle.address.specs.declared.Station.{Station}
 use Rattle.address.specs.declared.Address.{Address}
 use Rattle.address.specs.Address.{stationOf}
@@ -34,14 +34,10 @@ pub record EndKeyed (e : Address) (k : ℕ) : Type 0 where
   pub node : e .node .0 ≤ 65535
   pub port : e .port .0 ≤ 255
 
--- the key of the node at a place
-unfoldable pub nodeKeyAt : Nodes → ℕ → ℕ
-nodeKeyAt ns i = stationKey (nodeAt ns i .station)
-
--- the keys of all 16 places of nodes, and each node number there has two bytes
+-- the keys of all 16 places of nodes
 pub record KeysOf (ns : Nodes) (keys : List ℕ) : Type 0 where
-  pub row : keys ≡ row mostNodes 0 (nodeKeyAt ns) mostNodes
-  pub fits : (i : ℕ) → i < mostNodes → nodeAt ns i .station .node .0 ≤ 65535
+  pub long : length keys ≡ mostNodes
+  pub keyed : (i : ℕ) → i < mostNodes → StationKeyed (nodeAt ns i .station) (getD keys i 0)
 
 -- the keys of the nodes, and those of the links' ends, place by place
 abbrev pub KeyedNodes : Nodes → List ℕ → Type 0

@@ -9,6 +9,8 @@ use Rattle.address.specs.declared.Station.{Station}
 use Rattle.address.specs.Wide.{stationIn}
 use Rattle.chart.specs.declared.ChartNode.{ChartNode}
 use Rattle.chart.specs.declared.Link.{Link}
+use Rattle.chart.specs.declared.Nodes.{Nodes}
+use Rattle.chart.specs.declared.Links.{Links}
 use Rattle.chart.specs.declared.Chart.{Chart}
 use Rattle.chart.specs.Values.{noChart}
 use Rattle.chart.specs.Numbers.{nodeNumber, linkNumber, questionNumber}
@@ -26,32 +28,23 @@ pub record SoFar : Type 0 where
 unfoldable pub nothing : SoFar
 nothing = record { chart = noChart; asked = false }
 
+-- a node after the others, and a link
+abbrev pub nodeAdded : Nodes → ChartNode → Nodes
+nodeAdded ns n = record { count = ns .count + 1; items = set (ns .items) (ns .count) n }
+
+abbrev pub linkAdded : Links → Link → Links
+linkAdded ls l = record { count = ls .count + 1; items = set (ls .items) (ls .count) l }
+
 -- with one node, one link or the question more
 unfoldable pub withNode : SoFar → ChartNode → SoFar
 withNode s n =
     let c = s .chart in
-    record {
-      chart = record {
-        nodes = record { count = c .nodes .count + 1; items = set (c .nodes .items) (c .nodes .count) n };
-        links = c .links;
-        from = c .from;
-        to = c .to;
-      };
-      asked = s .asked;
-    }
+    record { chart = record { nodes = nodeAdded (c .nodes) n; links = c .links; from = c .from; to = c .to }; asked = s .asked }
 
 unfoldable pub withLink : SoFar → Link → SoFar
 withLink s l =
     let c = s .chart in
-    record {
-      chart = record {
-        nodes = c .nodes;
-        links = record { count = c .links .count + 1; items = set (c .links .items) (c .links .count) l };
-        from = c .from;
-        to = c .to;
-      };
-      asked = s .asked;
-    }
+    record { chart = record { nodes = c .nodes; links = linkAdded (c .links) l; from = c .from; to = c .to }; asked = s .asked }
 
 unfoldable pub withQuestion : SoFar → Station → Station → SoFar
 withQuestion s from to = record { chart = record { nodes = s .chart .nodes; links = s .chart .links; from = from; to = to }; asked = true }
