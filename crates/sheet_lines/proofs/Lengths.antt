@@ -43,11 +43,9 @@ end-long : (e : Address) → inRange e ≡ true → length (endText e) ≤ 11
 unfolding endText
 end-long e h =
     let q = end-range e h in
-    let r = station-range (stationOf e) (q .0) in
-    let b : length (decimal (e .brigade)) ≤ 3 = three 20 (e .brigade) (r .0) in
-    let n : length (decimal (e .node .0)) ≤ 4 = four 20 (e .node .0) (r .1) in
+    let s = station-long (stationOf e) (q .0) in
     let p : length (decimal (e .port .0)) ≤ 2 = two 20 (e .port .0) (q .1) in
-    rw (length-append, length-append, length-append, length-append) (omega arith)
+    rw (length-append, length-append) (omega arith)
 
 label-long : (l : List ℕ) → length (labelText l) ≤ length l + 1
 unfolding labelText

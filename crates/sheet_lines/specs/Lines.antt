@@ -7,6 +7,7 @@ use mathlib.Core.List.{List, [], _∷_, _++_}
 use lib.ListN.{take}
 use Rattle.address.specs.declared.Station.{Station}
 use Rattle.address.specs.declared.Address.{Address}
+use Rattle.address.specs.Address.{stationOf}
 use Rattle.chart.specs.declared.ChartNode.{ChartNode}
 use Rattle.chart.specs.declared.Link.{Link}
 use Rattle.chart.specs.Sample.{nodeS, linkS, hill}
@@ -19,7 +20,7 @@ stationText s = decimal (s .brigade) ++ slash ++ decimal (s .node .0)
 
 -- brigade/node/port
 unfoldable pub endText : Address → List ℕ
-endText e = decimal (e .brigade) ++ slash ++ decimal (e .node .0) ++ slash ++ decimal (e .port .0)
+endText e = stationText (stationOf e) ++ slash ++ decimal (e .port .0)
 
 -- a blank and the label; an empty label leaves out its blank as well
 unfoldable pub labelText : List ℕ → List ℕ

@@ -1,6 +1,7 @@
 // The lines of the printed sheet but its routes (document 01, "The printed sheet").
 use address::Address;
 use address::Station;
+use address::station_of;
 use chart::ChartNode;
 use chart::Link;
 use text::put_byte;
@@ -26,11 +27,9 @@ fn put_station(out: &mut [u8], at: usize, s: Station) -> usize
 fn put_end(out: &mut [u8], at: usize, e: Address) -> usize
     ensures { λ r. ⌜ Laid (now (out .entry)) at (endText e) (now (out .exit)) r ⌝ }
 {
-    let n1 = put_number(out, at, e.brigade as usize);
+    let n1 = put_station(out, at, station_of(e));
     let n2 = put_byte(out, n1, b'/');
-    let n3 = put_number(out, n2, e.node.0 as usize);
-    let n4 = put_byte(out, n3, b'/');
-    put_number(out, n4, e.port.0 as usize)
+    put_number(out, n2, e.port.0 as usize)
 }
 
 // A blank and the first bytes of a label, as many as it has; nothing where it has none.
