@@ -13,15 +13,15 @@ use Rattle.answer.specs.Answer.{standingFor, settled, withLeg, answeredAt, answ
 use Rattle.tick.specs.Tick.{timesOut, ticked, tickedLedger, tickNumber, tickOf}
 use Rattle.ledger_laws.specs.Calls.{numberOf, after}
 use Rattle.chart.specs.Values.{noChart, nodeAt, linkAt, strayByte, nodeInRange, endInRange, linkInRange, standsAt, written, isEnd, endsAt, used}
-use Rattle.chart.specs.Numbers.{bothWritten, eitherUsed, nodeNumber, linkNumber, questionNumber}
+use Rattle.chart.specs.Numbers.{bothWritten, eitherUsed, nodeBy, linkBy, questionBy, nodeNumber, linkNumber, questionNumber}
 use Rattle.chart.specs.Sample.{S, bytesS}
 use Rattle.chart_read.specs.Fields.{bytesFrom, nodeIn, linkIn}
-use Rattle.chart_read.specs.Reading.{nothing, withNode, withLink, withQuestion, nodeLate, nodeBodyNumber, linkBodyNumber, questionBodyNumber, taking, bodyTaken, stepOf, walk, chartReadOf}
+use Rattle.chart_read.specs.Reading.{nothing, withNode, withLink, withQuestion, withBody, nodeLate, refusing, nodeBodyNumber, linkBodyNumber, questionBodyNumber, bodyNumber, fieldNumber, walk, chartReadOf}
 use Rattle.chart_write.specs.Numbers.{nodeNumberAt, linkNumberAt, valuesNumber, chartNumber}
 use Rattle.routes.specs.Route.{also, only}
-use Rattle.routes.specs.All.{upFrom, linksFrom, via, over, tries, routes, tally, unmet, allFrom, allRoutes, firstOf, sameLinks, nextOf}
+use Rattle.routes.specs.All.{upFrom, linksFrom, over, tries, routes, unmet, allFrom, allRoutes, firstOf, sameLinks, nextOf}
 use Rattle.search.specs.Answers.{answerNumber, answerRoute, told, firstRefusal, nextRefusal}
-use Rattle.chart_net.specs.Net.{stationAt, placeIn, crossed, farIn, chartNet, start, routesOf}
+use Rattle.chart_net.specs.Net.{placeIn, crossed, farIn, chartNet, start, routesOf}
 use Rattle.trace.specs.Trace.{firstRefusalOf, nextRefusalOf, traceFirst, traceNext}
 use Rattle.cases.specs.Questions.{Back, listFrom, returnedBy, afterAll, answerTo}
 use Rattle.cases.specs.Values.{T, two, one}
@@ -46,12 +46,12 @@ each (k ∷ ks) e c m = go (each ks (tail-eq-of-cons-eq e) c) (List·Memᴰ·cas
 
 -- they agree on the table
 computed : back table ≡ meant table
-unfolding chartReadOf walk stepOf bodyTaken taking unlessRefused nothing noChart nodeBodyNumber linkBodyNumber questionBodyNumber nodeLate nodeIn linkIn bytesFrom withNode withLink withQuestion nodeNumber linkNumber questionNumber bothWritten eitherUsed nodeInRange linkInRange endInRange stationInRange inRange sameStation sameAddress written used standsAt endsAt isEnd nodeAt linkAt strayByte anyBelow firstBelow elementAt firsts row also only upFrom linksFrom via over tries routes tally unmet allFrom allRoutes sameLinks stationAt placeIn crossed farIn chartNet start routesOf chartNumber valuesNumber firstNumber nodeNumberAt linkNumberAt firstOf nextOf answerNumber answerRoute told firstRefusal nextRefusal firstRefusalOf nextRefusalOf traceFirst traceNext entryAt isOwn covers qualifies qualifiesAt hasRoute outPort outOf targetInRange entryInRange strayEntry tableInRange callInRange chooseOf sameAt repeatAt repeats howMany legAt isOpen openLeg alike ticksRight legRight wrongAt obeys standingFor settled withLeg answeredAt answeredPlace legNumber answerOf timesOut ticked tickedLedger tickNumber tickOf numberOf after S bytesS T two one listFrom returnedBy afterAll answerTo table
+unfolding chartReadOf walk unlessRefused nothing noChart fieldNumber bodyNumber refusing nodeBodyNumber linkBodyNumber questionBodyNumber nodeLate nodeIn linkIn bytesFrom withBody withNode withLink withQuestion nodeBy linkBy questionBy nodeNumber linkNumber questionNumber bothWritten eitherUsed nodeInRange linkInRange endInRange stationInRange inRange sameStation sameAddress written used standsAt endsAt isEnd nodeAt linkAt strayByte anyBelow firstBelow elementAt firsts row also only upFrom linksFrom over tries routes unmet allFrom allRoutes sameLinks placeIn crossed farIn chartNet start routesOf chartNumber valuesNumber firstNumber nodeNumberAt linkNumberAt firstOf nextOf answerNumber answerRoute told firstRefusal nextRefusal firstRefusalOf nextRefusalOf traceFirst traceNext entryAt isOwn covers qualifies qualifiesAt hasRoute outPort outOf targetInRange entryInRange strayEntry tableInRange callInRange chooseOf sameAt repeatAt repeats howMany legAt isOpen openLeg alike ticksRight legRight wrongAt obeys standingFor settled withLeg answeredAt answeredPlace legNumber answerOf timesOut ticked tickedLedger tickNumber tickOf numberOf after S bytesS T two one listFrom returnedBy afterAll answerTo table
 computed = refl
 
 pub all-hold : AllHold
 all-hold = each table computed
 
 pub slipped : Slipped
-unfolding chartReadOf walk stepOf bodyTaken taking unlessRefused nothing noChart nodeBodyNumber linkBodyNumber questionBodyNumber nodeLate nodeIn linkIn bytesFrom withNode withLink withQuestion nodeNumber linkNumber questionNumber bothWritten eitherUsed nodeInRange linkInRange endInRange stationInRange inRange sameStation sameAddress written used standsAt endsAt isEnd nodeAt linkAt strayByte anyBelow firstBelow elementAt firsts row also only upFrom linksFrom via over tries routes tally unmet allFrom allRoutes sameLinks stationAt placeIn crossed farIn chartNet start routesOf bytesS
+unfolding chartReadOf walk unlessRefused nothing noChart fieldNumber bodyNumber refusing nodeBodyNumber linkBodyNumber questionBodyNumber nodeLate nodeIn linkIn bytesFrom withBody withNode withLink withQuestion nodeBy linkBy questionBy nodeNumber linkNumber questionNumber bothWritten eitherUsed nodeInRange linkInRange endInRange stationInRange inRange sameStation sameAddress written used standsAt endsAt isEnd nodeAt linkAt strayByte anyBelow firstBelow elementAt firsts row also only upFrom linksFrom over tries routes unmet allFrom allRoutes sameLinks placeIn crossed farIn chartNet start routesOf bytesS
 slipped = record { right = refl; wrong = refl }

@@ -16,7 +16,7 @@ use Rattle.chart.specs.declared.Link.{Link}
 use Rattle.chart.specs.declared.Nodes.{Nodes}
 use Rattle.chart.specs.declared.Links.{Links}
 use Rattle.chart.specs.Values.{noNode, noLink, nodeAt, linkAt, strayByte, nodeInRange, linkInRange, written}
-use Rattle.chart.specs.Numbers.{bothWritten, eitherUsed, nodeNumber, linkNumber, questionNumber}
+use Rattle.chart.specs.Numbers.{bothWritten, eitherUsed, nodeBy, linkBy, questionBy, nodeNumber, linkNumber, questionNumber}
 
 -- ---- what a loop reads at a place
 
@@ -52,7 +52,7 @@ pub record NodePassed (late : Bool) (ns : Nodes) (n : ChartNode) : Type 0 where
   pub fresh : written ns (n .station) ≡ false
 
 pub node-passed : (late : Bool) (ns : Nodes) (n : ChartNode) → nodeNumber late ns n ≡ 0 → NodePassed late ns n
-unfolding nodeNumber
+unfolding nodeNumber nodeBy
 node-passed late ns n e =
     let p = pass 22 (ltb 24 (n .length)) _ e in
     let q = pass 23 (not (nodeInRange n)) _ (p .1) in
@@ -77,7 +77,7 @@ pub record LinkPassed (late : Bool) (ns : Nodes) (ls : Links) (l : Link) : Type 
   pub fresh : eitherUsed ls l ≡ false
 
 pub link-passed : (late : Bool) (ns : Nodes) (ls : Links) (l : Link) → linkNumber late ns ls l ≡ 0 → LinkPassed late ns ls l
-unfolding linkNumber
+unfolding linkNumber linkBy
 link-passed late ns ls l e =
     let p = pass 23 (not (linkInRange l)) _ e in
     let q = pass 24 late _ (p .1) in
@@ -103,7 +103,7 @@ pub record QuestionPassed (late : Bool) (ns : Nodes) (from to : Station) : Type 
   pub ends : bothWritten ns from to ≡ true
 
 pub question-passed : (late : Bool) (ns : Nodes) (from to : Station) → questionNumber late ns from to ≡ 0 → QuestionPassed late ns from to
-unfolding questionNumber
+unfolding questionNumber questionBy
 question-passed late ns from to e =
     let p = pass 23 (not (stationInRange from && stationInRange to)) _ e in
     let q = pass 24 late _ (p .1) in

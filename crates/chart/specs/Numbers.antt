@@ -19,32 +19,42 @@ bothWritten ns s t = written ns s && written ns t
 unfoldable pub eitherUsed : Links → Link → Bool
 eitherUsed ls l = used ls (l .a) || used ls (l .b)
 
--- a node's number: 23 its label would give the field a length that a node does not allow, 24 a value out of range, 25 it comes too late,
--- 26 the nodes are 16 already, 27 one of them has its station
-unfoldable pub nodeNumber : Bool → Nodes → ChartNode → ℕ
-nodeNumber late ns n =
+-- a node's number after so many nodes, whether one of them has its station: 23 its label would give the field a length that a node does not allow, 24 a value
+-- out of range, 25 it comes too late, 26 the nodes are 16 already, 27 one has its station
+unfoldable pub nodeBy : Bool → ℕ → Bool → ChartNode → ℕ
+nodeBy late nodes twice n =
     refuse 23 (ltb longestLabel (n .length))
     (refuse 24 (not (nodeInRange n))
     (refuse 25 late
-    (refuse 26 (leb mostNodes (ns .count))
-    (refuse 27 (written ns (n .station)) 0))))
+    (refuse 26 (leb mostNodes nodes)
+    (refuse 27 twice 0))))
 
--- a link's number: 24 a value out of range, 25 it comes too late, 26 the links are 48 already (or the nodes too many), 28 an end at no node,
--- 29 both ends at one node, 30 an end that an earlier link has
-unfoldable pub linkNumber : Bool → Nodes → Links → Link → ℕ
-linkNumber late ns ls l =
+-- a link's number after so many nodes and links, whether both its ends are at nodes and whether one is used: 24 a value out of range, 25 it comes too late,
+-- 26 the links are 48 already (or the nodes too many), 28 an end at no node, 29 both ends at one node, 30 an end that an earlier link has
+unfoldable pub linkBy : Bool → ℕ → ℕ → Bool → Bool → Link → ℕ
+linkBy late nodes links both used l =
     refuse 24 (not (linkInRange l))
     (refuse 25 late
-    (refuse 26 (ltb mostNodes (ns .count))
-    (refuse 26 (leb mostLinks (ls .count))
-    (refuse 28 (not (bothWritten ns (stationOf (l .a)) (stationOf (l .b))))
+    (refuse 26 (ltb mostNodes nodes)
+    (refuse 26 (leb mostLinks links)
+    (refuse 28 (not both)
     (refuse 29 (sameStation (stationOf (l .a)) (stationOf (l .b)))
-    (refuse 30 (eitherUsed ls l) 0))))))
+    (refuse 30 used 0))))))
 
--- the question's number: 24 a value out of range, 25 it comes too late, 26 the nodes are too many, 28 a station at no node
-unfoldable pub questionNumber : Bool → Nodes → Station → Station → ℕ
-questionNumber late ns from to =
+-- the question's number, likewise: 24 a value out of range, 25 it comes too late, 26 the nodes are too many, 28 a station at no node
+unfoldable pub questionBy : Bool → ℕ → Bool → Station → Station → ℕ
+questionBy late nodes both from to =
     refuse 24 (not (stationInRange from && stationInRange to))
     (refuse 25 late
-    (refuse 26 (ltb mostNodes (ns .count))
-    (refuse 28 (not (bothWritten ns from to)) 0)))
+    (refuse 26 (ltb mostNodes nodes)
+    (refuse 28 (not both) 0)))
+
+-- these numbers after the nodes and links themselves
+unfoldable pub nodeNumber : Bool → Nodes → ChartNode → ℕ
+nodeNumber late ns n = nodeBy late (ns .count) (written ns (n .station)) n
+
+unfoldable pub linkNumber : Bool → Nodes → Links → Link → ℕ
+linkNumber late ns ls l = linkBy late (ns .count) (ls .count) (bothWritten ns (stationOf (l .a)) (stationOf (l .b))) (eitherUsed ls l) l
+
+unfoldable pub questionNumber : Bool → Nodes → Station → Station → ℕ
+questionNumber late ns from to = questionBy late (ns .count) (bothWritten ns from to) from to

@@ -66,20 +66,15 @@ imageAfter bytes b = unlessRefused (readNumberFor bytes (length b)) (sets b 0 (c
 -- the node at a place of an image
 unfoldable pub nodeHeld : List ℕ → ℕ → ChartNode
 nodeHeld b i =
-    record {
-      station = stationIn b (nodesAt + 28 * i);
-      length = getD b (nodesAt + 28 * i + 3) 0;
-      label = row longestLabel 0 (bytesFrom b (nodesAt + 28 * i + 4)) longestLabel;
-    }
+    let at = nodesAt + 28 * i in
+    record { station = stationIn b at; length = getD b (at + 3) 0; label = row longestLabel 0 (bytesFrom b (at + 4)) longestLabel }
 
--- the link whose 9 bytes begin at a place; where its on byte is above 1 a link that is out of range, so that 24 comes in its own field
-unfoldable pub linkHeldAt : List ℕ → ℕ → Link
-linkHeldAt b at =
+-- the link at a place; where its on byte is above 1 a link that is out of range, so that 24 comes in its own field
+unfoldable pub linkHeld : List ℕ → ℕ → Link
+linkHeld b i =
+    let at = linksAt + 9 * i in
     cond (ltb 1 (getD b (at + 8) 0)) noLink
     (record { a = addressIn b at; b = addressIn b (at + 4); on = eqb (getD b (at + 8) 0) 1 })
-
-unfoldable pub linkHeld : List ℕ → ℕ → Link
-linkHeld b i = linkHeldAt b (linksAt + 9 * i)
 
 -- the chart in an image: places past the counts are not looked at
 unfoldable pub chartIn : List ℕ → Chart

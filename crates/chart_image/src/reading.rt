@@ -1,6 +1,4 @@
 // The chart in an image.
-use address::Node;
-use address::Station;
 use chart::Chart;
 use chart::ChartNode;
 use chart::Link;
@@ -13,7 +11,7 @@ ghost use Prim.Native.Nat.{_≤_, min};
 ghost use Rattle.lists.specs.Places.{row};
 ghost use Rattle.chart.specs.Values.{noNode, noLink};
 ghost use Rattle.chart_read.specs.Fields.{bytesFrom};
-ghost use Rattle.chart_image.specs.Chart.{nodeHeld, linkHeldAt, linkHeld, chartIn};
+ghost use Rattle.chart_image.specs.Chart.{nodeHeld, linkHeld, chartIn};
 
 // The 24 bytes from a place on.
 fn label_in(b: &[u8], at: usize) -> [u8; 24]
@@ -50,16 +48,7 @@ fn nodes_held(b: &[u8], n: usize) -> [ChartNode; 16]
     requires { ⌜ n ≤ 16 ⌝ }
     ensures { λ r. ⌜ r ≡ row 16 noNode (nodeHeld (now (b .entry))) n ⌝ }
 {
-    let station = Station {
-        brigade: 0,
-        node: Node(0),
-    };
-    let label = [0u8; 24];
-    let none = ChartNode {
-        station,
-        length: 0,
-        label,
-    };
+    let none = chart::no_node();
     let mut items = [none; 16];
     let mut i: usize = 0;
     while i < n {
@@ -70,11 +59,12 @@ fn nodes_held(b: &[u8], n: usize) -> [ChartNode; 16]
     items
 }
 
-// The link whose 9 bytes begin at a place; where its on byte is above 1, no link.
-fn link_held(b: &[u8], at: usize) -> Link
-    requires { ⌜ at ≤ 888 ⌝ }
-    ensures { λ r. ⌜ r ≡ linkHeldAt (now (b .entry)) at ⌝ }
+// The link at place i of an image; where its on byte is above 1, no link.
+fn link_held(b: &[u8], i: usize) -> Link
+    requires { ⌜ i ≤ 48 ⌝ }
+    ensures { λ r. ⌜ r ≡ linkHeld (now (b .entry)) i ⌝ }
 {
+    let at = 456 + 9 * i;
     let on = lists::byte_at(b, at + 8);
     if 1 < on {
         return chart::no_link();
@@ -97,7 +87,7 @@ fn links_held(b: &[u8], n: usize) -> [Link; 48]
     let mut items = [none; 48];
     let mut i: usize = 0;
     while i < n {
-        let e = link_held(b, 456 + 9 * i);
+        let e = link_held(b, i);
         items[i] = e;
         i += 1;
     }

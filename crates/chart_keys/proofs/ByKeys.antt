@@ -8,11 +8,10 @@ use lib.ListN.{length, getD, set}
 use lib.Seq.{getD-set-same, getD-set-other}
 use lib.Dec.{eqb}
 use borrow.Author.Tests.{eqb-true, eqb-false, eq-eqb}
-use Rattle.lists.specs.Places.{anyBelow, elementAt, row}
-use Rattle.lists.proofs.Places.{any-agree, row-at, row-next}
+use Rattle.lists.specs.Places.{anyBelow, elementAt}
+use Rattle.lists.proofs.Places.{any-agree}
 use Rattle.lists.proofs.Bools.{both-same, and-left, and-right, and-both}
 use Rattle.lists.proofs.Chains.{or-left, or-skip}
-use Rattle.chart.proofs.Laws.{node-read}
 use Rattle.address.specs.declared.Station.{Station}
 use Rattle.address.specs.declared.Address.{Address}
 use Rattle.address.specs.Address.{stationOf, sameStation, sameAddress}
@@ -21,8 +20,8 @@ use Rattle.chart.specs.declared.Link.{Link}
 use Rattle.chart.specs.declared.Nodes.{Nodes}
 use Rattle.chart.specs.declared.Links.{Links}
 use Rattle.chart.specs.Values.{noNode, noLink, nodeAt, linkAt, standsAt, written, isEnd, endsAt, used}
-use Rattle.chart.specs.Numbers.{bothWritten, eitherUsed, nodeNumber, linkNumber, questionNumber}
-use Rattle.chart_keys.specs.Keys.{stationKey, endKey, nodeKeyAt, KeysOf, StationKeyed, EndKeyed, KeyedNodes, KeyedLinks, keyIs, known, bothKnown, usedBy, eitherBy, nodeBy, linkBy, questionBy}
+use Rattle.chart.specs.Numbers.{bothWritten, eitherUsed, nodeBy, linkBy, questionBy, nodeNumber, linkNumber, questionNumber}
+use Rattle.chart_keys.specs.Keys.{stationKey, endKey, KeysOf, StationKeyed, EndKeyed, KeyedNodes, KeyedLinks, keyIs, known, bothKnown, usedBy, eitherBy, nodeByKeys, linkByKeys, questionByKeys}
 
 -- ---- as the code has them: with the key at hand
 
@@ -101,13 +100,13 @@ module _ (ns : Nodes) (keys : List ℕ) (h : KeyedNodes ns keys) where
   unfolding bothKnown bothWritten
   both-keyed s t f g = ap₂ _&&_ (known-written s f) (known-written t g)
 
-  pub node-keyed : (late : Bool) (n : ChartNode) → n .station .node .0 ≤ 65535 → nodeBy late (ns .count) (known keys (ns .count) (n .station)) n ≡ nodeNumber late ns n
-  unfolding nodeBy nodeNumber
+  pub node-keyed : (late : Bool) (n : ChartNode) → n .station .node .0 ≤ 65535 → nodeByKeys late keys (ns .count) n ≡ nodeNumber late ns n
+  unfolding nodeByKeys nodeNumber
   node-keyed late n f = ap (λ (w : Bool). nodeBy late (ns .count) w n) (known-written (n .station) f)
 
   pub question-keyed : (late : Bool) (s t : Station) → s .node .0 ≤ 65535 → t .node .0 ≤ 65535
-      → questionBy late (ns .count) (bothKnown keys (ns .count) s t) s t ≡ questionNumber late ns s t
-  unfolding questionBy questionNumber
+      → questionByKeys late keys (ns .count) s t ≡ questionNumber late ns s t
+  unfolding questionByKeys questionNumber
   question-keyed late s t f g = ap (λ (w : Bool). questionBy late (ns .count) w s t) (both-keyed s t f g)
 
   module _ (ls : Links) (near far : List ℕ) (g : KeyedLinks ls near far) where
@@ -124,8 +123,8 @@ module _ (ns : Nodes) (keys : List ℕ) (h : KeyedNodes ns keys) where
     either-keyed l j k ha hb = ap₂ _||_ (used-keyed (l .a) j ha) (used-keyed (l .b) k hb)
 
     pub link-keyed : (late : Bool) (l : Link) (j k : ℕ) → EndKeyed (l .a) j → EndKeyed (l .b) k
-        → linkBy late (ns .count) (ls .count) (bothKnown keys (ns .count) (stationOf (l .a)) (stationOf (l .b))) (eitherBy near far (ls .count) l) l ≡ linkNumber late ns ls l
-    unfolding linkBy linkNumber
+        → linkByKeys late keys (ns .count) near far (ls .count) l ≡ linkNumber late ns ls l
+    unfolding linkByKeys linkNumber
     link-keyed late l j k ha hb =
         ap₂ (λ (x y : Bool). linkBy late (ns .count) (ls .count) x y l)
         (both-keyed (stationOf (l .a)) (stationOf (l .b)) (ha .node) (hb .node))
@@ -175,25 +174,4 @@ keyed-more P keys c k hk e h i l = by (eqb i c) refl
 
 -- the keys of all places are those of the nodes
 pub keyed-of : (ns : Nodes) (keys : List ℕ) → ns .count ≤ 16 → KeysOf ns keys → KeyedNodes ns keys
-unfolding nodeKeyAt elementAt
-keyed-of ns keys f h i l =
-    record { key = ap (λ (x : List ℕ). getD x i 0) (h .row) ∙ sym (row-at 16 0 (nodeKeyAt ns) 16 i (omega arith)); node = h .fits i (omega arith) }
-
--- all keys but those from i on, and one more
-pub keys-next : (ns : Nodes) (keys : List ℕ) (d : ChartNode) (i k : ℕ) → i < 16 → i < length (ns .items) → keys ≡ row 16 0 (nodeKeyAt ns) i → StationKeyed (getD (ns .items) i d .station) k
-    → set keys i k ≡ row 16 0 (nodeKeyAt ns) (i + 1)
-unfolding nodeKeyAt
-keys-next ns keys d i k h l e s =
-    ap₂ (λ (x : List ℕ) (y : ℕ). set x i y) e (s .key ∙ ap (λ (n : ChartNode). stationKey (n .station)) (node-read ns d i l)) ∙ row-next 16 0 (nodeKeyAt ns) i h
-
-pub fits-next : (ns : Nodes) (d : ChartNode) (i : ℕ) {k : ℕ} → i < length (ns .items) → ((j : ℕ) → j < i → nodeAt ns j .station .node .0 ≤ 65535) → StationKeyed (getD (ns .items) i d .station) k
-    → (j : ℕ) → j < i + 1 → nodeAt ns j .station .node .0 ≤ 65535
-fits-next ns d i l h s j m = by (eqb j i) refl
-  where
-    by : (t : Bool) → eqb j i ≡ t → nodeAt ns j .station .node .0 ≤ 65535
-    by true q =
-        subst (λ (x : ℕ). nodeAt ns x .station .node .0 ≤ 65535) (sym (eqb-true j i q))
-        (subst (λ (n : ChartNode). n .station .node .0 ≤ 65535) (node-read ns d i l) (s .node))
-    by false q =
-        let n = eqb-false j i q in
-        h j (omega arith)
+keyed-of ns keys f h i l = h .keyed i (omega arith)

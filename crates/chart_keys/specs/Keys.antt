@@ -2,19 +2,19 @@
 use Prim.Native.Nat.{ℕ, _+_, _*_, _<_, _≤_}
 use mathlib.Core.Path.{_≡_}
 use mathlib.Core.List.{List}
-use mathlib.Core.Bool.{Bool, not, _&&_, _||_}
-use lib.ListN.{getD}
-use lib.Dec.{ltb, leb, eqb}
-use Rattle.lists.specs.Refusals.{refuse}
-use Rattle.lists.specs.Places.{anyBelow, row}
+use mathlib.Core.Bool.{Bool, _&&_, _||_}
+use lib.ListN.{length, getD}
+use lib.Dec.{eqb}
+use Rattle.lists.specs.Places.{anyBelow}
 use Rattle.address.specs.declared.Station.{Station}
 use Rattle.address.specs.declared.Address.{Address}
-use Rattle.address.specs.Address.{stationOf, stationInRange, sameStation}
+use Rattle.address.specs.Address.{stationOf}
 use Rattle.chart.specs.declared.ChartNode.{ChartNode}
 use Rattle.chart.specs.declared.Link.{Link}
 use Rattle.chart.specs.declared.Nodes.{Nodes}
 use Rattle.chart.specs.declared.Links.{Links}
-use Rattle.chart.specs.Values.{mostNodes, mostLinks, longestLabel, nodeInRange, linkInRange, nodeAt, linkAt}
+use Rattle.chart.specs.Values.{mostNodes, nodeAt, linkAt}
+use Rattle.chart.specs.Numbers.{nodeBy, linkBy, questionBy}
 
 -- the three bytes of a station as one number, the four of an end
 unfoldable pub stationKey : Station → ℕ
@@ -34,14 +34,10 @@ pub record EndKeyed (e : Address) (k : ℕ) : Type 0 where
   pub node : e .node .0 ≤ 65535
   pub port : e .port .0 ≤ 255
 
--- the key of the node at a place
-unfoldable pub nodeKeyAt : Nodes → ℕ → ℕ
-nodeKeyAt ns i = stationKey (nodeAt ns i .station)
-
--- the keys of all 16 places of nodes, and each node number there has two bytes
+-- the keys of all 16 places of nodes
 pub record KeysOf (ns : Nodes) (keys : List ℕ) : Type 0 where
-  pub row : keys ≡ row mostNodes 0 (nodeKeyAt ns) mostNodes
-  pub fits : (i : ℕ) → i < mostNodes → nodeAt ns i .station .node .0 ≤ 65535
+  pub long : length keys ≡ mostNodes
+  pub keyed : (i : ℕ) → i < mostNodes → StationKeyed (nodeAt ns i .station) (getD keys i 0)
 
 -- the keys of the nodes, and those of the links' ends, place by place
 abbrev pub KeyedNodes : Nodes → List ℕ → Type 0
@@ -73,29 +69,13 @@ usedBy near far m e = anyBelow (keyIs near (endKey e)) m || anyBelow (keyIs far 
 unfoldable pub eitherBy : List ℕ → List ℕ → ℕ → Link → Bool
 eitherBy near far m l = usedBy near far m (l .a) || usedBy near far m (l .b)
 
--- ---- the numbers, as in Numbers.antt, by the counts and the tests of what is written
+-- ---- the numbers, by the first n keys of nodes and the first m of links
 
-unfoldable pub nodeBy : Bool → ℕ → Bool → ChartNode → ℕ
-nodeBy late count twice n =
-    refuse 23 (ltb longestLabel (n .length))
-    (refuse 24 (not (nodeInRange n))
-    (refuse 25 late
-    (refuse 26 (leb mostNodes count)
-    (refuse 27 twice 0))))
+unfoldable pub nodeByKeys : Bool → List ℕ → ℕ → ChartNode → ℕ
+nodeByKeys late keys n x = nodeBy late n (known keys n (x .station)) x
 
-unfoldable pub linkBy : Bool → ℕ → ℕ → Bool → Bool → Link → ℕ
-linkBy late nodes links both used l =
-    refuse 24 (not (linkInRange l))
-    (refuse 25 late
-    (refuse 26 (ltb mostNodes nodes)
-    (refuse 26 (leb mostLinks links)
-    (refuse 28 (not both)
-    (refuse 29 (sameStation (stationOf (l .a)) (stationOf (l .b)))
-    (refuse 30 used 0))))))
+unfoldable pub linkByKeys : Bool → List ℕ → ℕ → List ℕ → List ℕ → ℕ → Link → ℕ
+linkByKeys late keys n near far m l = linkBy late n m (bothKnown keys n (stationOf (l .a)) (stationOf (l .b))) (eitherBy near far m l) l
 
-unfoldable pub questionBy : Bool → ℕ → Bool → Station → Station → ℕ
-questionBy late nodes both from to =
-    refuse 24 (not (stationInRange from && stationInRange to))
-    (refuse 25 late
-    (refuse 26 (ltb mostNodes nodes)
-    (refuse 28 (not both) 0)))
+unfoldable pub questionByKeys : Bool → List ℕ → ℕ → Station → Station → ℕ
+questionByKeys late keys n from to = questionBy late n (bothKnown keys n from to) from to

@@ -14,12 +14,11 @@ use chart::Link;
 use chart::MOST_LINKS;
 use chart::MOST_NODES;
 ghost use mathlib.Core.Path.{_≡_};
-ghost use Rattle.address.specs.Address.{stationOf};
-ghost use Rattle.chart_keys.specs.Keys.{known, bothKnown, eitherBy, nodeBy, linkBy, questionBy};
+ghost use Rattle.chart_keys.specs.Keys.{nodeByKeys, linkByKeys, questionByKeys};
 
 // The number that refuses a node after those with the first n keys, or 0. It is late after a link or the question.
 pub fn node_number(late: bool, keys: &[u32; 16], n: usize, node: ChartNode) -> u8
-    ensures { λ r. ⌜ r ≡ nodeBy late n (known (now (keys .entry)) n (node .station)) node ⌝ }
+    ensures { λ r. ⌜ r ≡ nodeByKeys late (now (keys .entry)) n node ⌝ }
 {
     if LONGEST_LABEL < node.length {
         return 23;
@@ -50,7 +49,7 @@ pub fn link_number(
     m: usize,
     l: Link,
 ) -> u8
-    ensures { λ r. ⌜ r ≡ linkBy late n m (bothKnown (now (keys .entry)) n (stationOf (l .a)) (stationOf (l .b))) (eitherBy (now (near .entry)) (now (far .entry)) m l) l ⌝ }
+    ensures { λ r. ⌜ r ≡ linkByKeys late (now (keys .entry)) n (now (near .entry)) (now (far .entry)) m l ⌝ }
 {
     if !link_in_range(l) {
         return 24;
@@ -80,7 +79,7 @@ pub fn link_number(
 
 // The number that refuses a question after the nodes with the first n keys, or 0. It is late after another.
 pub fn question_number(late: bool, keys: &[u32; 16], n: usize, from: Station, to: Station) -> u8
-    ensures { λ r. ⌜ r ≡ questionBy late n (bothKnown (now (keys .entry)) n from to) from to ⌝ }
+    ensures { λ r. ⌜ r ≡ questionByKeys late (now (keys .entry)) n from to ⌝ }
 {
     if !both_in_range(from, to) {
         return 24;

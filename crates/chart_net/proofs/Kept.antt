@@ -16,7 +16,7 @@ use Rattle.chart.specs.declared.Link.{Link}
 use Rattle.chart.specs.declared.Nodes.{Nodes}
 use Rattle.chart.specs.declared.Links.{Links}
 use Rattle.chart.specs.declared.Chart.{Chart}
-use Rattle.chart.specs.Values.{linkAt, written}
+use Rattle.chart.specs.Values.{nodeAt, linkAt, written}
 use Rattle.chart.proofs.Laws.{link-read}
 use Rattle.routes.specs.Route.{Net, Sound}
 use Rattle.routes.specs.All.{allRoutes}
@@ -26,7 +26,7 @@ use Rattle.search.specs.Net.{nodePlace, otherOf, farOf, nodeOf, net}
 use Rattle.search.specs.Answers.{routesIn}
 use Rattle.search.proofs.Leading.{far-in, sound}
 use Rattle.chart_write.specs.Promises.{Accepted}
-use Rattle.chart_net.specs.Net.{stationAt, placeIn, crossed, across, placed, farIn, chartNet, start, routesOf}
+use Rattle.chart_net.specs.Net.{placeIn, crossed, across, placed, farIn, chartNet, start, routesOf}
 use Rattle.chart_net.specs.Arrays.{placeFor, endPlaces, endPlacesAt, wayOf, wayAt, endsFor, waysFor, routesKept}
 use Rattle.chart_net.proofs.Places.{place-written, place-few, at-place}
 
@@ -89,7 +89,7 @@ module _ (ls : Links) where
 
 -- ---- far ends: of the chart, and of the arrays
 
-far-there : (ns : Nodes) (ls : Links) (i a : ℕ) → i < ls .count → farIn ns ls i a ≡ placed ns (across (linkAt ls i) (stationAt ns a))
+far-there : (ns : Nodes) (ls : Links) (i a : ℕ) → i < ls .count → farIn ns ls i a ≡ placed ns (across (linkAt ls i) (nodeAt ns a .station))
 unfolding farIn
 far-there ns ls i a h = rw (lt-ltb i (ls .count) h)
 
@@ -153,12 +153,12 @@ module _ (c : Chart) (ok : Accepted c) where
   unfolding chartNet farIn
   chart-sound i a f e = go (ltb i (ls .count)) refl e
     where
-      go : (b : Bool) → ltb i (c .links .count) ≡ b → cond b (placed (c .nodes) (across (linkAt (c .links) i) (stationAt (c .nodes) a))) none ≡ some f → f < c .nodes .count
+      go : (b : Bool) → ltb i (c .links .count) ≡ b → cond b (placed (c .nodes) (across (linkAt (c .links) i) (nodeAt (c .nodes) a .station))) none ≡ some f → f < c .nodes .count
       go false t q = absurd (Option·none-ne-some f q)
       go true t q =
           let l = linkAt ls i in
           let j = ok .joins i (ltb-true i (ls .count) t) in
-          crossed-sound l f (j .a) (j .b) (l .on) (sameStation (stationOf (l .a)) (stationAt ns a)) (sameStation (stationOf (l .b)) (stationAt ns a)) q
+          crossed-sound l f (j .a) (j .b) (l .on) (sameStation (stationOf (l .a)) (nodeAt ns a .station)) (sameStation (stationOf (l .b)) (nodeAt ns a .station)) q
 
   pub start-below : start c < c .nodes .count
   unfolding start

@@ -16,7 +16,7 @@ use Rattle.chart.specs.Values.{nodeAt, standsAt, written}
 use Rattle.chart_keys.specs.Keys.{StationKeyed, KeysOf, keyIs}
 use Rattle.chart_keys.proofs.ByKeys.{keyed-of, stands-keyed}
 use Rattle.chart_write.specs.Numbers.{nodesBefore}
-use Rattle.chart_net.specs.Net.{stationAt, placeIn}
+use Rattle.chart_net.specs.Net.{placeIn}
 use Rattle.chart_net.specs.Arrays.{placeFor}
 
 -- ---- stations that are the same are one
@@ -82,23 +82,23 @@ module _ (ns : Nodes) (s : Station) where
 
 module _ (ns : Nodes) (once : (i : ℕ) → i < ns .count → written (nodesBefore ns i) (nodeAt ns i .station) ≡ false) where
   -- each node has its own place
-  own-place : (a : ℕ) → a < ns .count → placeIn ns (stationAt ns a) ≡ a
-  unfolding written standsAt nodeAt stationAt
-  own-place a h = sym (place-here ns (stationAt ns a) a h (once a h) (station-refl (stationAt ns a)))
+  own-place : (a : ℕ) → a < ns .count → placeIn ns (nodeAt ns a .station) ≡ a
+  unfolding written standsAt nodeAt
+  own-place a h = sym (place-here ns (nodeAt ns a .station) a h (once a h) (station-refl (nodeAt ns a .station)))
 
   -- the node at a station's place stands there
-  stands-there : (s : Station) (k : ℕ) → placeIn ns s ≡ k → k < ns .count → sameStation (stationAt ns k) s ≡ true
-  unfolding placeIn standsAt stationAt
+  stands-there : (s : Station) (k : ℕ) → placeIn ns s ≡ k → k < ns .count → sameStation (nodeAt ns k .station) s ≡ true
+  unfolding placeIn standsAt
   stands-there s k q l =
       let m : firstBelow (standsAt ns s) (ns .count) < ns .count = omega arith in
       ap (standsAt ns s) (sym q) ∙ first-found (standsAt ns s) (ns .count) (first-below (standsAt ns s) (ns .count) m) .passes
 
   -- a station has the place of the node that stands at it, and no other
-  pub at-place : (s : Station) (a : ℕ) → a < ns .count → sameStation s (stationAt ns a) ≡ eqb (placeIn ns s) a
-  at-place s a h = both-same (sameStation s (stationAt ns a)) (eqb (placeIn ns s) a) to from
+  pub at-place : (s : Station) (a : ℕ) → a < ns .count → sameStation s (nodeAt ns a .station) ≡ eqb (placeIn ns s) a
+  at-place s a h = both-same (sameStation s (nodeAt ns a .station)) (eqb (placeIn ns s) a) to from
     where
-      to : sameStation s (stationAt ns a) ≡ true → eqb (placeIn ns s) a ≡ true
-      to e = eq-eqb (placeIn ns s) a (ap (placeIn ns) (station-eq s (stationAt ns a) e) ∙ own-place a h)
+      to : sameStation s (nodeAt ns a .station) ≡ true → eqb (placeIn ns s) a ≡ true
+      to e = eq-eqb (placeIn ns s) a (ap (placeIn ns) (station-eq s (nodeAt ns a .station) e) ∙ own-place a h)
 
-      from : eqb (placeIn ns s) a ≡ true → sameStation s (stationAt ns a) ≡ true
-      from e = station-sym s (stationAt ns a) ∙ stands-there s a (eqb-true (placeIn ns s) a e) h
+      from : eqb (placeIn ns s) a ≡ true → sameStation s (nodeAt ns a .station) ≡ true
+      from e = station-sym s (nodeAt ns a .station) ∙ stands-there s a (eqb-true (placeIn ns s) a e) h

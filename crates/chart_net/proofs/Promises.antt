@@ -11,10 +11,10 @@ use Rattle.address.specs.Address.{stationOf, sameStation}
 use Rattle.chart.specs.declared.Link.{Link}
 use Rattle.chart.specs.declared.Nodes.{Nodes}
 use Rattle.chart.specs.declared.Links.{Links}
-use Rattle.chart.specs.Values.{linkAt, standsAt}
+use Rattle.chart.specs.Values.{nodeAt, linkAt, standsAt}
 use Rattle.routes.specs.All.{allRoutes}
 use Rattle.routes.proofs.Promises.{off-links, twin-links}
-use Rattle.chart_net.specs.Net.{stationAt, placeIn, crossed, across, placed, farIn, chartNet, start, routesOf}
+use Rattle.chart_net.specs.Net.{placeIn, crossed, across, placed, farIn, chartNet, start, routesOf}
 use Rattle.chart_net.specs.Promises.{RoutesKept, AcceptedEnds, ByStation, OffLink, TwinLink}
 use Rattle.chart_net.proofs.Kept as kept
 
@@ -26,9 +26,9 @@ accepted-ends c ok = record { sound = kept.chart-sound c ok; begins = kept.start
 
 -- ---- labels are not looked at
 
-module _ (ns ms : Nodes) (count : ns .count ≡ ms .count) (stations : (i : ℕ) → stationAt ns i ≡ stationAt ms i) where
+module _ (ns ms : Nodes) (count : ns .count ≡ ms .count) (stations : (i : ℕ) → nodeAt ns i .station ≡ nodeAt ms i .station) where
   place-same : (s : Station) → placeIn ns s ≡ placeIn ms s
-  unfolding placeIn standsAt stationAt
+  unfolding placeIn standsAt
   place-same s =
       let p : standsAt ns s ≡ standsAt ms s = fun-ext (λ i. ap (λ (t : Station). sameStation t s) (stations i)) in
       λ j. firstBelow (p j) (count j)
@@ -42,7 +42,7 @@ module _ (ns ms : Nodes) (count : ns .count ≡ ms .count) (stations : (i : ℕ)
   far-same ls =
       fun-ext (λ i. fun-ext (λ a.
       ap (λ (o : Option ℕ). cond (ltb i (ls .count)) o none)
-      (ap (λ (s : Station). placed ns (across (linkAt ls i) s)) (stations a) ∙ placed-same (across (linkAt ls i) (stationAt ms a)))))
+      (ap (λ (s : Station). placed ns (across (linkAt ls i) s)) (stations a) ∙ placed-same (across (linkAt ls i) (nodeAt ms a .station)))))
 
 pub by-station : ByStation
 unfolding routesOf chartNet start
@@ -65,7 +65,7 @@ off-far : (ns : Nodes) (ls : Links) (i : ℕ) → linkAt ls i .on ≡ false → 
 unfolding farIn crossed
 off-far ns ls i off n = go (ltb i (ls .count))
   where
-    go : (b : Bool) → cond b (placed ns (across (linkAt ls i) (stationAt ns n))) none ≡ none
+    go : (b : Bool) → cond b (placed ns (across (linkAt ls i) (nodeAt ns n .station))) none ≡ none
     go true = rw off
     go false = refl
 
@@ -92,6 +92,6 @@ twin-link c i j t hi hj ne p r q =
     let far : (n : ℕ) → chartNet c .far i n ≡ chartNet c .far j n =
     λ n.
     rw (lt-ltb i (c .links .count) hi, lt-ltb j (c .links .count) hj)
-    (ap (placed (c .nodes)) (twin-across (linkAt (c .links) i) (linkAt (c .links) j) (stationAt (c .nodes) n) (t .a) (t .b) (t .on)))
+    (ap (placed (c .nodes)) (twin-across (linkAt (c .links) i) (linkAt (c .links) j) (nodeAt (c .nodes) n .station) (t .a) (t .b) (t .on)))
     in
     twin-links (chartNet c) (start c) i j far hj ne p r q

@@ -15,10 +15,6 @@ use Rattle.chart.specs.Values.{nodeAt, linkAt, standsAt}
 use Rattle.routes.specs.Route.{Net}
 use Rattle.routes.specs.All.{allRoutes}
 
--- the station of the node at a place
-unfoldable pub stationAt : Nodes → ℕ → Station
-stationAt ns a = nodeAt ns a .station
-
 -- the place of the node at this station: its brigade and node number are compared, its label is not looked at
 unfoldable pub placeIn : Nodes → Station → ℕ
 placeIn ns s = firstBelow (standsAt ns s) (ns .count)
@@ -41,7 +37,7 @@ placed ns (some s) = some (placeIn ns s)
 
 -- the far end of link i for one who stands at the node at place a, if there is such a link
 unfoldable pub farIn : Nodes → Links → ℕ → ℕ → Option ℕ
-farIn ns ls i a = cond (ltb i (ls .count)) (placed ns (across (linkAt ls i) (stationAt ns a))) none
+farIn ns ls i a = cond (ltb i (ls .count)) (placed ns (across (linkAt ls i) (nodeAt ns a .station))) none
 
 -- the net of the chart
 unfoldable pub chartNet : Chart → Net

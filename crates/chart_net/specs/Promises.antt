@@ -5,11 +5,11 @@ use mathlib.Core.Bool.{false}
 use mathlib.Core.List.{List, _∷_, _++_, List·Memᴰ}
 use Rattle.address.specs.Address.{stationOf}
 use Rattle.chart.specs.declared.Chart.{Chart}
-use Rattle.chart.specs.Values.{linkAt}
+use Rattle.chart.specs.Values.{nodeAt, linkAt}
 use Rattle.chart_write.specs.Promises.{Accepted}
 use Rattle.routes.specs.Route.{Sound, RouteFrom}
 use Rattle.routes.specs.Promises.{TwoRoutes}
-use Rattle.chart_net.specs.Net.{stationAt, chartNet, start, routesOf}
+use Rattle.chart_net.specs.Net.{chartNet, start, routesOf}
 use Rattle.chart_net.specs.Arrays.{routesKept}
 
 -- the arrays that the trace keeps of an accepted chart have the chart's routes
@@ -27,7 +27,7 @@ AcceptedEnds = (c : Chart) → Accepted c → EndsAtNodes c
 -- two charts that differ in their labels alone
 pub record LabelsAside (c d : Chart) : Type 0 where
   pub count : c .nodes .count ≡ d .nodes .count
-  pub stations : (i : ℕ) → stationAt (c .nodes) i ≡ stationAt (d .nodes) i
+  pub stations : (i : ℕ) → nodeAt (c .nodes) i .station ≡ nodeAt (d .nodes) i .station
   pub links : c .links ≡ d .links
   pub from : c .from ≡ d .from
   pub to : c .to ≡ d .to

@@ -11,10 +11,9 @@ use lib.Seq.{getD-append-add, getD-append-seam, drop-append-add, take-append-sea
 use lib.Dec.{ltb}
 use borrow.Author.Tests.{ltb-false, ltb-true}
 use Rattle.lists.specs.Bytes.{Bytes, wordAt, wordBytes}
-use Rattle.chart_read.specs.Held.{SoFar}
 use Rattle.chart_read.specs.Fields.{tagged, tagAt, bodyAt, pastField}
-use Rattle.chart_read.specs.Reading.{bodyTaken, stepTo, stepOf}
-use Rattle.chart_read.proofs.Laws.{step-whole}
+use Rattle.chart_read.specs.Reading.{SoFar, withBody, Refusing, bodyNumber, fieldNumber}
+use Rattle.chart_read.proofs.Laws.{field-whole}
 
 -- ---- where a field was written
 
@@ -44,18 +43,20 @@ module _ (pre : List ℕ) (tag : ℕ) (body post : List ℕ) where
   unfolding tagged
   length-there = omega (arith, length-append pre (tagged tag body ++ post), length-append body post)
 
-  -- the reader takes its body by its tag, and goes on after it
-  pub step-there : (s : SoFar) → stepOf s there (length pre) ≡ stepTo (length pre + 3 + length body) (bodyTaken s tag body)
-  step-there s =
-      sym (step-whole s there (length pre) (omega (arith, word-there, length-there)))
-      ∙ ap₂ stepTo (ap (λ (k : ℕ). length pre + 3 + k) word-there) (ap₂ (bodyTaken s) tag-there body-there)
+  -- its number is that of its body by its tag, and it adds what the body says
+  pub number-there : (r : Refusing) → fieldNumber r there (length pre) ≡ bodyNumber r tag body
+  number-there r =
+      sym (field-whole r there (length pre) (bodyNumber r tag body) (omega (arith, word-there, length-there)) (sym (ap₂ (bodyNumber r) tag-there body-there)))
+
+  pub held-there : (s : SoFar) → withBody s (tagAt there (length pre)) (bodyAt there (length pre)) ≡ withBody s tag body
+  held-there s = ap₂ (withBody s) tag-there body-there
 
   pub begins-there : length pre < length there
   begins-there = omega (arith, length-there)
 
-  pub past-there : length pre + 3 + length body ≡ length (pre ++ tagged tag body)
+  pub past-there : pastField there (length pre) ≡ length (pre ++ tagged tag body)
   unfolding tagged
-  past-there = omega (arith, length-append pre (tagged tag body))
+  past-there = omega (arith, word-there, length-append pre (tagged tag body))
 
 -- ---- in any bytes
 

@@ -1,10 +1,10 @@
 -- What the reader's loop keeps: the walk from here is the whole reading, and the keys are those of the nodes and links that are held.
 use Prim.Native.Nat.{ℕ, _+_, _-_, _<_, _≤_}
-use mathlib.Core.Path.{_≡_, refl, sym, ap, subst, _∙_}
+use mathlib.Core.Path.{_≡_, refl, sym, ap, ap₂, subst, _∙_}
 use mathlib.Core.List.{List}
 use mathlib.Core.Bool.{Bool, true, false}
 use native.Mathlib.Omega.{arith}
-use lib.ListN.{length, set, take, drop, replicate, length-set}
+use lib.ListN.{length, getD, set, take, drop, replicate, length-set}
 use borrow.Author.Tests.{eq-eqb, ne-eqb}
 use Rattle.lists.specs.Bytes.{Bytes, wordAt}
 use Rattle.address.specs.declared.Station.{Station}
@@ -17,13 +17,12 @@ use Rattle.chart.specs.Numbers.{nodeNumber, linkNumber}
 use Rattle.chart_keys.specs.Keys.{StationKeyed, EndKeyed, KeyedNodes, KeyedLinks}
 use Rattle.chart.proofs.Laws.{node-passed, link-passed}
 use Rattle.chart_keys.proofs.ByKeys.{keyed-node, keyed-link}
-use Rattle.chart_read.specs.Held.{SoFar}
-use Rattle.chart_read.specs.Fields.{tagAt, bodyAt, pastField, nodeIn, linkIn}
-use Rattle.chart_read.specs.Reading.{nothing, nodeLate, withNode, withLink, withQuestion, stepOf, refusedAt, chartReadOf}
-use Rattle.chart_read.specs.ByKeys.{fieldBy}
-use Rattle.chart_read.proofs.Walking.{Reaches, reach-start, reach-next, reach-refused, reach-end, end-unasked, end-asked}
-use Rattle.chart_read.proofs.Laws.{body-made}
-use Rattle.chart_read.proofs.Keyed as keyed
+use Rattle.chart_read.specs.Fields.{tagAt, bodyAt, nodeIn, linkIn}
+use Rattle.chart_read.specs.Reading.{SoFar, nothing, withNode, withLink, withQuestion, Refusing, nodeLate, refusing, bodyNumber, fieldNumber, refusedAt, chartReadOf}
+use Rattle.chart_read.specs.ByKeys.{refusingBy}
+use Rattle.chart_read.proofs.Walking.{heldPast, Reaches, reach-start, reach-next, reach-refused, reach-end, end-unasked, end-asked}
+use Rattle.chart_read.proofs.Laws.{with-node, with-link, with-question, node-zero, link-zero, node-bounds, link-bounds, body-made, whole, body-zero}
+use Rattle.chart_read.proofs.Keyed.{field-same}
 
 -- the loop's variables
 pub record Turn : Type 0 where
@@ -96,26 +95,29 @@ holding-start bytes n l e f =
     subst (λ (x : ChartNode). Holding bytes (firstTurn x l)) (sym e) (subst (λ (y : Link). Holding bytes (firstTurn noNode y)) (sym f) (nothing-yet bytes))
 
 abbrev pub numberOf : List ℕ → Turn → ℕ
-numberOf bytes t = fieldBy (t .asked) (t .keys) (t .n) (t .near) (t .far) (t .m) bytes (t .at)
+numberOf bytes t = fieldNumber (refusingBy (t .asked) (t .keys) (t .n) (t .near) (t .far) (t .m)) bytes (t .at)
 
 module _ (bytes : List ℕ) (t : Turn) (h : Holding bytes t) (b : Bytes bytes) (l : t .at < length bytes) where
-  number-same : numberOf bytes t ≡ stepOf (soFarOf t) bytes (t .at) .number
-  number-same = keyed.field-same (soFarOf t) (t .keys) (t .near) (t .far) (h .nodes) (h .links) bytes b (t .at)
+  abbrev r : Refusing
+  r = refusing (soFarOf t)
+
+  number-same : numberOf bytes t ≡ fieldNumber r bytes (t .at)
+  number-same = field-same (soFarOf t) (t .keys) (t .near) (t .far) (h .nodes) (h .links) bytes b (t .at)
 
   pub refused-field : (k : ℕ) → k ≡ numberOf bytes t → (k ≡ 0 → ⊥) → refusedAt k (t .at) ≡ chartReadOf bytes
   refused-field k e z =
       ap (λ (x : ℕ). refusedAt x (t .at)) (e ∙ number-same)
-      ∙ reach-refused bytes (soFarOf t) (t .at) l (stepOf (soFarOf t) bytes (t .at)) refl (h .reaches) (λ q. z (e ∙ number-same ∙ q))
+      ∙ reach-refused bytes (soFarOf t) (t .at) l (h .reaches) (λ q. z (e ∙ number-same ∙ q))
 
   module _ (w : ℕ) (v : w ≡ wordAt bytes (t .at + 1)) (e : numberOf bytes t ≡ 0) where
+    zero : fieldNumber r bytes (t .at) ≡ 0
+    zero = sym number-same ∙ e
+
     pub past : t .at + 3 + w ≤ length bytes
-    past = omega (arith, keyed.whole (soFarOf t) (t .keys) (t .near) (t .far) (h .nodes) (h .links) bytes b (t .at) e)
+    past = omega (arith, whole r bytes (t .at) zero)
 
-    whole : pastField bytes (t .at) ≤ length bytes
-    whole = keyed.whole (soFarOf t) (t .keys) (t .near) (t .far) (h .nodes) (h .links) bytes b (t .at) e
-
-    next-field : t .at + 3 + w ≡ pastField bytes (t .at)
-    next-field = ap (λ (x : ℕ). t .at + 3 + x) v
+    abbrev tag : ℕ
+    tag = tagAt bytes (t .at)
 
     abbrev body : List ℕ
     body = bodyAt bytes (t .at)
@@ -123,9 +125,19 @@ module _ (bytes : List ℕ) (t : Turn) (h : Holding bytes t) (b : Bytes bytes) (
     abbrev made : List ℕ
     made = take (t .at + 3 + w - (t .at + 3)) (drop (t .at + 3) bytes)
 
-    module _ (g : tagAt bytes (t .at) ≡ 1) where
+    body-none : bodyNumber r tag body ≡ 0
+    body-none = body-zero r bytes (t .at) zero
+
+    -- the walk goes on past the field
+    reached : Reaches bytes (heldPast (soFarOf t) bytes (t .at)) (t .at + 3 + w)
+    reached =
+        subst (λ (x : ℕ). Reaches bytes (heldPast (soFarOf t) bytes (t .at)) (t .at + 3 + x)) (sym v)
+        (reach-next bytes (soFarOf t) (t .at) l (h .reaches) zero)
+
+    module _ (g : tag ≡ 1) where
       node-facts : (3 ≤ length body) × (length body ≤ 27) × (nodeNumber (nodeLate (soFarOf t)) (chartOf t .nodes) (nodeIn body) ≡ 0)
-      node-facts = keyed.node-bounds (soFarOf t) body (keyed.node-zero (soFarOf t) (t .keys) (t .near) (t .far) (h .nodes) (h .links) bytes b (t .at) e (eq-eqb _ _ g))
+      unfolding refusing
+      node-facts = node-bounds (r .node) body (node-zero r tag body body-none (eq-eqb _ _ g))
 
       pub node-room : t .n < 16
       node-room = node-passed _ _ _ (node-facts .2) .room
@@ -151,11 +163,8 @@ module _ (bytes : List ℕ) (t : Turn) (h : Holding bytes t) (b : Bytes bytes) (
       unfolding withNode
       holding-node node k q s =
           record {
-            reaches = subst (λ (x : ℕ). Reaches bytes (withNode (soFarOf t) node) x) (sym next-field)
-                (subst (λ (x : ChartNode). Reaches bytes (withNode (soFarOf t) x) (pastField bytes (t .at))) (sym (q ∙ ap nodeIn (body-made bytes (t .at) w v)))
-                (reach-next bytes (soFarOf t) (t .at) l _
-                (keyed.step-node (soFarOf t) bytes (t .at) whole (eq-eqb _ _ g) (keyed.node-zero (soFarOf t) (t .keys) (t .near) (t .far) (h .nodes) (h .links) bytes b (t .at) e (eq-eqb _ _ g)))
-                (h .reaches) refl));
+            reaches = subst (λ (x : SoFar). Reaches bytes x (t .at + 3 + w))
+                (with-node (soFarOf t) tag body (eq-eqb _ _ g) ∙ ap (withNode (soFarOf t)) (sym (q ∙ ap nodeIn (body-made bytes (t .at) w v)))) reached;
             nodes = keyed-node (chartOf t .nodes) (t .keys) (h .nodes) node k s (omega (arith, node-room, h .long-nodes)) (omega (arith, node-room, h .long-keys));
             links = h .links;
             few-nodes = omega (arith, node-room);
@@ -167,12 +176,13 @@ module _ (bytes : List ℕ) (t : Turn) (h : Holding bytes t) (b : Bytes bytes) (
             long-far = h .long-far;
           }
 
-    module _ (f : tagAt bytes (t .at) ≡ 1 → ⊥) (g : tagAt bytes (t .at) ≡ 2) where
-      link-facts : (length body ≡ 9) × (linkNumber (t .asked) (chartOf t .nodes) (chartOf t .links) (linkIn body) ≡ 0)
-      link-facts = keyed.link-bounds (soFarOf t) body (keyed.link-zero (soFarOf t) (t .keys) (t .near) (t .far) (h .nodes) (h .links) bytes b (t .at) e (ne-eqb _ _ f) (eq-eqb _ _ g))
+    module _ (f : tag ≡ 1 → ⊥) (g : tag ≡ 2) where
+      link-facts : (length body ≡ 9) × (getD body 8 0 ≤ 1) × (linkNumber (t .asked) (chartOf t .nodes) (chartOf t .links) (linkIn body) ≡ 0)
+      unfolding refusing
+      link-facts = link-bounds (r .link) body (link-zero r tag body body-none (ne-eqb _ _ f) (eq-eqb _ _ g))
 
       pub link-room : t .m < 48
-      link-room = link-passed _ _ _ _ (link-facts .1) .room
+      link-room = link-passed _ _ _ _ (link-facts .2) .room
 
       pub link-length : length made ≡ 9
       link-length = ap length (body-made bytes (t .at) w v) ∙ link-facts .0
@@ -195,11 +205,8 @@ module _ (bytes : List ℕ) (t : Turn) (h : Holding bytes t) (b : Bytes bytes) (
       unfolding withLink
       holding-link link j k q sa sb =
           record {
-            reaches = subst (λ (x : ℕ). Reaches bytes (withLink (soFarOf t) link) x) (sym next-field)
-                (subst (λ (x : Link). Reaches bytes (withLink (soFarOf t) x) (pastField bytes (t .at))) (sym (q ∙ ap linkIn (body-made bytes (t .at) w v)))
-                (reach-next bytes (soFarOf t) (t .at) l _
-                (keyed.step-link (soFarOf t) bytes (t .at) whole (ne-eqb _ _ f) (eq-eqb _ _ g) (keyed.link-zero (soFarOf t) (t .keys) (t .near) (t .far) (h .nodes) (h .links) bytes b (t .at) e (ne-eqb _ _ f) (eq-eqb _ _ g)))
-                (h .reaches) refl));
+            reaches = subst (λ (x : SoFar). Reaches bytes x (t .at + 3 + w))
+                (with-link (soFarOf t) tag body (ne-eqb _ _ f) (eq-eqb _ _ g) ∙ ap (withLink (soFarOf t)) (sym (q ∙ ap linkIn (body-made bytes (t .at) w v)))) reached;
             nodes = h .nodes;
             links = keyed-link (chartOf t .links) (t .near) (t .far) (h .links) link j k sa sb (omega (arith, link-room, h .long-links)) (omega (arith, link-room, h .long-near)) (omega (arith, link-room, h .long-far));
             few-nodes = h .few-nodes;
@@ -212,7 +219,7 @@ module _ (bytes : List ℕ) (t : Turn) (h : Holding bytes t) (b : Bytes bytes) (
           }
 
     -- the question
-    pub holding-question : (f : tagAt bytes (t .at) ≡ 1 → ⊥) (g : tagAt bytes (t .at) ≡ 2 → ⊥) (from to : Station) → from ≡ stationIn made 0 → to ≡ stationIn made 3
+    pub holding-question : (f : tag ≡ 1 → ⊥) (g : tag ≡ 2 → ⊥) (from to : Station) → from ≡ stationIn made 0 → to ≡ stationIn made 3
         → Holding bytes (record {
           nodes = t .nodes;
           links = t .links;
@@ -229,15 +236,10 @@ module _ (bytes : List ℕ) (t : Turn) (h : Holding bytes t) (b : Bytes bytes) (
     unfolding withQuestion
     holding-question f g from to p q =
         let d = body-made bytes (t .at) w v in
-        let z = keyed.question-zero (soFarOf t) (t .keys) (t .near) (t .far) (h .nodes) (h .links) bytes b (t .at) e (ne-eqb _ _ f) (ne-eqb _ _ g) in
-        let three = keyed.question-tag (soFarOf t) (t .keys) (t .near) (t .far) (h .nodes) (h .links) bytes b (t .at) e (ne-eqb _ _ f) (ne-eqb _ _ g) in
         record {
-          reaches = subst (λ (x : ℕ). Reaches bytes (withQuestion (soFarOf t) from to) x) (sym next-field)
-              (subst (λ (x : Station). Reaches bytes (withQuestion (soFarOf t) x to) (pastField bytes (t .at))) (sym (p ∙ ap (λ (y : List ℕ). stationIn y 0) d))
-              (subst (λ (x : Station). Reaches bytes (withQuestion (soFarOf t) (stationIn body 0) x) (pastField bytes (t .at))) (sym (q ∙ ap (λ (y : List ℕ). stationIn y 3) d))
-              (reach-next bytes (soFarOf t) (t .at) l _
-              (keyed.step-question (soFarOf t) bytes (t .at) whole (ne-eqb _ _ f) (ne-eqb _ _ g) three z)
-              (h .reaches) refl)));
+          reaches = subst (λ (x : SoFar). Reaches bytes x (t .at + 3 + w))
+              (with-question (soFarOf t) tag body (ne-eqb _ _ f) (ne-eqb _ _ g)
+              ∙ ap₂ (withQuestion (soFarOf t)) (sym (p ∙ ap (λ (y : List ℕ). stationIn y 0) d)) (sym (q ∙ ap (λ (y : List ℕ). stationIn y 3) d))) reached;
           nodes = h .nodes;
           links = h .links;
           few-nodes = h .few-nodes;

@@ -1,24 +1,23 @@
--- Laws of the reader's definitions, over plain values: a number with what is then held, and one field at a place.
+-- Laws of the reader's definitions, over plain values: a body by its tag, one field at a place, and what a number of 0 says of them.
 use Prim.Native.Nat.{ℕ, _+_, _-_, _<_, _≤_}
 use mathlib.Core.Path.{_≡_, refl, sym, ap, _∙_}
 use mathlib.Core.List.{List}
-use mathlib.Core.Bool.{Bool, true, false, cond}
+use mathlib.Core.Bool.{Bool, true, false, not, cond}
 use native.Mathlib.Omega.{arith}
 use lib.ListN.{length, getD, take, drop}
-use borrow.Author.Tests.{lt-ltb, le-ltb}
+use lib.Dec.{ltb, eqb}
+use borrow.Author.Tests.{lt-ltb, le-ltb, ltb-false, eqb-true, not-false}
 use Rattle.lists.specs.Bytes.{wordAt}
-use Rattle.lists.proofs.Refusals.{taken}
+use Rattle.lists.proofs.Refusals.{pass}
 use Rattle.lists.proofs.Chains.{stops, passes}
-use Rattle.chart_read.specs.Held.{SoFar}
-use Rattle.chart_read.specs.Fields.{tagAt, bodyAt, pastField}
-use Rattle.chart_read.specs.ByKeys.{bodyBy, fieldBy}
-use Rattle.chart_read.specs.Reading.{nothing, taking, bodyTaken, stepTo, stepOf}
+use Rattle.address.specs.declared.Station.{Station}
+use Rattle.address.specs.Wide.{stationIn}
+use Rattle.chart.specs.declared.ChartNode.{ChartNode}
+use Rattle.chart.specs.declared.Link.{Link}
+use Rattle.chart_read.specs.Fields.{tagAt, bodyAt, pastField, cutShort, nodeIn, linkIn}
+use Rattle.chart_read.specs.Reading.{SoFar, withNode, withLink, withQuestion, withBody, Refusing, nodeBodyNumber, linkBodyNumber, questionBodyNumber, bodyNumber, fieldNumber}
 
--- ---- a number with what is then held
-
-pub held-taken : {m : ℕ} {s t : SoFar} → 0 ≡ m → t ≡ s → record { number = 0; «so_far» = t } ≡ taking m s
-unfolding taking
-held-taken {m} {s} {t} e f = rw (← e) (λ i. record { number = 0; «so_far» = (f ∙ sym (taken s nothing refl)) i })
+-- ---- by the tag
 
 pub tag-first : {A : Type 0} {b : Bool} (k x : A) → b ≡ true → k ≡ cond b k x
 tag-first k x e = rw e
@@ -26,12 +25,64 @@ tag-first k x e = rw e
 pub tag-later : {A : Type 0} {b : Bool} (k : A) {r x : A} → b ≡ false → r ≡ x → r ≡ cond b k x
 tag-later k e h = rw e h
 
--- ---- one field at a place
+-- what is held after a body of each tag
+module _ (s : SoFar) (tag : ℕ) (b : List ℕ) where
+  pub with-node : eqb tag 1 ≡ true → withBody s tag b ≡ withNode s (nodeIn b)
+  unfolding withBody
+  with-node t = sym (tag-first _ _ t)
 
-module _ (s : SoFar) (bytes : List ℕ) (at : ℕ) where
-  pub step-whole : pastField bytes at ≤ length bytes → stepTo (pastField bytes at) (bodyTaken s (tagAt bytes at) (bodyAt bytes at)) ≡ stepOf s bytes at
-  unfolding stepOf
-  step-whole h = tag-later _ (le-ltb (length bytes) (pastField bytes at) h) refl
+  pub with-link : eqb tag 1 ≡ false → eqb tag 2 ≡ true → withBody s tag b ≡ withLink s (linkIn b)
+  unfolding withBody
+  with-link f t = sym (tag-later _ f (tag-first _ _ t))
+
+  pub with-question : eqb tag 1 ≡ false → eqb tag 2 ≡ false → withBody s tag b ≡ withQuestion s (stationIn b 0) (stationIn b 3)
+  unfolding withBody
+  with-question f g = sym (tag-later _ f (tag-later _ g refl))
+
+-- what a body's number of 0 says, by its tag
+module _ (r : Refusing) (tag : ℕ) (b : List ℕ) (e : bodyNumber r tag b ≡ 0) where
+  pub node-zero : eqb tag 1 ≡ true → nodeBodyNumber (r .node) b ≡ 0
+  unfolding bodyNumber
+  node-zero t = tag-first _ _ t ∙ e
+
+  pub link-zero : eqb tag 1 ≡ false → eqb tag 2 ≡ true → linkBodyNumber (r .link) b ≡ 0
+  unfolding bodyNumber
+  link-zero f t = tag-later _ f (tag-first _ _ t) ∙ e
+
+  asks : eqb tag 1 ≡ false → eqb tag 2 ≡ false → (t : Bool) → eqb tag 3 ≡ t → eqb tag 3 ≡ true
+  unfolding bodyNumber
+  asks f g true t = t
+  asks f g false t = absurd (omega (arith, tag-later _ f (tag-later _ g (tag-later _ t refl)) ∙ e))
+
+  pub question-tag : eqb tag 1 ≡ false → eqb tag 2 ≡ false → eqb tag 3 ≡ true
+  question-tag f g = asks f g (eqb tag 3) refl
+
+  pub question-zero : eqb tag 1 ≡ false → eqb tag 2 ≡ false → questionBodyNumber (r .question) b ≡ 0
+  unfolding bodyNumber
+  question-zero f g = tag-later _ f (tag-later _ g (tag-first _ _ (question-tag f g))) ∙ e
+
+-- and by its length and its value
+pub node-bounds : (number : ChartNode → ℕ) (b : List ℕ) → nodeBodyNumber number b ≡ 0 → (3 ≤ length b) × (length b ≤ 27) × (number (nodeIn b) ≡ 0)
+unfolding nodeBodyNumber
+node-bounds number b e =
+    let p = pass 22 (ltb (length b) 3) _ e in
+    let q = pass 22 (ltb 27 (length b)) _ (p .1) in
+    (ltb-false (length b) 3 (p .0), ltb-false 27 (length b) (q .0), q .1)
+
+pub link-bounds : (number : Link → ℕ) (b : List ℕ) → linkBodyNumber number b ≡ 0 → (length b ≡ 9) × (getD b 8 0 ≤ 1) × (number (linkIn b) ≡ 0)
+unfolding linkBodyNumber
+link-bounds number b e =
+    let p = pass 22 (not (eqb (length b) 9)) _ e in
+    let q = pass 23 (ltb 1 (getD b 8 0)) _ (p .1) in
+    (eqb-true (length b) 9 (not-false _ (p .0)), ltb-false 1 (getD b 8 0) (q .0), q .1)
+
+pub question-bounds : (number : Station → Station → ℕ) (b : List ℕ) → questionBodyNumber number b ≡ 0 → (length b ≡ 6) × (number (stationIn b 0) (stationIn b 3) ≡ 0)
+unfolding questionBodyNumber
+question-bounds number b e =
+    let p = pass 22 (not (eqb (length b) 6)) _ e in
+    (eqb-true (length b) 6 (not-false _ (p .0)), p .1)
+
+-- ---- one field at a place
 
 -- the body as the code has it: from its first byte to the next field
 pub body-made : (bytes : List ℕ) (at w : ℕ) → w ≡ wordAt bytes (at + 1) → take (at + 3 + w - (at + 3)) (drop (at + 3) bytes) ≡ bodyAt bytes at
@@ -39,15 +90,25 @@ body-made bytes at w e =
     let k : at + 3 + w - (at + 3) ≡ wordAt bytes (at + 1) = omega arith in
     ap (λ (j : ℕ). take j (drop (at + 3) bytes)) k
 
--- ---- its number by keys
-
-module _ (asked : Bool) (keys : List ℕ) (n : ℕ) (near far : List ℕ) (m : ℕ) (bytes : List ℕ) (at : ℕ) where
-  pub field-cut : length bytes < pastField bytes at → 21 ≡ fieldBy asked keys n near far m bytes at
-  unfolding fieldBy
+module _ (r : Refusing) (bytes : List ℕ) (at : ℕ) where
+  pub field-cut : length bytes < pastField bytes at → 21 ≡ fieldNumber r bytes at
+  unfolding fieldNumber
   field-cut h = stops 21 _ (lt-ltb (length bytes) (pastField bytes at) h)
 
-  pub field-whole : (w k : ℕ) → w ≡ wordAt bytes (at + 1) → at + 3 + w ≤ length bytes
-      → k ≡ bodyBy asked keys n near far m (getD bytes at 0) (take (at + 3 + w - (at + 3)) (drop (at + 3) bytes)) → k ≡ fieldBy asked keys n near far m bytes at
-  unfolding fieldBy
-  field-whole w k e h f =
-      passes 21 (le-ltb (length bytes) (pastField bytes at) (omega arith)) (f ∙ ap (bodyBy asked keys n near far m (getD bytes at 0)) (body-made bytes at w e))
+  pub field-whole : (k : ℕ) → pastField bytes at ≤ length bytes → k ≡ bodyNumber r (tagAt bytes at) (bodyAt bytes at) → k ≡ fieldNumber r bytes at
+  unfolding fieldNumber
+  field-whole k h e = passes 21 (le-ltb (length bytes) (pastField bytes at) h) e
+
+  pub field-made : (w k : ℕ) → w ≡ wordAt bytes (at + 1) → at + 3 + w ≤ length bytes
+      → k ≡ bodyNumber r (tagAt bytes at) (take (at + 3 + w - (at + 3)) (drop (at + 3) bytes)) → k ≡ fieldNumber r bytes at
+  field-made w k e h f = field-whole k (omega arith) (f ∙ ap (bodyNumber r (tagAt bytes at)) (body-made bytes at w e))
+
+  -- what its number of 0 says: it is whole, and its body has that number
+  module _ (e : fieldNumber r bytes at ≡ 0) where
+    pub whole : pastField bytes at ≤ length bytes
+    unfolding fieldNumber
+    whole = ltb-false (length bytes) (pastField bytes at) (pass 20 (cutShort bytes at) _ e .0)
+
+    pub body-zero : bodyNumber r (tagAt bytes at) (bodyAt bytes at) ≡ 0
+    unfolding fieldNumber
+    body-zero = pass 20 (cutShort bytes at) _ e .1

@@ -4,103 +4,111 @@ use mathlib.Core.List.{List}
 use mathlib.Core.Bool.{Bool, true, false, not, cond, _||_}
 use lib.ListN.{length, getD, set}
 use lib.Dec.{ltb, leb, eqb}
-use Rattle.lists.specs.Refusals.{refuse, unlessRefused}
+use Rattle.lists.specs.Refusals.{refuse}
 use Rattle.address.specs.declared.Station.{Station}
 use Rattle.address.specs.Wide.{stationIn}
 use Rattle.chart.specs.declared.ChartNode.{ChartNode}
 use Rattle.chart.specs.declared.Link.{Link}
+use Rattle.chart.specs.declared.Nodes.{Nodes}
+use Rattle.chart.specs.declared.Links.{Links}
+use Rattle.chart.specs.declared.Chart.{Chart}
 use Rattle.chart.specs.Values.{noChart}
 use Rattle.chart.specs.Numbers.{nodeNumber, linkNumber, questionNumber}
-use Rattle.chart_read.specs.Held.{SoFar, Taken, Step}
 use Rattle.chart_read.specs.declared.ChartRead.{ChartRead}
 use Rattle.chart_read.specs.Fields.{nodeTag, linkTag, questionTag, shortestNode, longestNode, linkLength, questionLength, tagAt, bodyAt, pastField, cutShort, nodeIn, linkIn}
 
 -- ---- what is held
 
--- before the first field, and beside a refusal
+-- what was taken of a chart, and whether the question was
+pub record SoFar : Type 0 where
+  pub chart : Chart
+  pub asked : Bool
+
+-- before the first field
 unfoldable pub nothing : SoFar
 nothing = record { chart = noChart; asked = false }
+
+-- a node after the others, and a link
+abbrev pub nodeAdded : Nodes → ChartNode → Nodes
+nodeAdded ns n = record { count = ns .count + 1; items = set (ns .items) (ns .count) n }
+
+abbrev pub linkAdded : Links → Link → Links
+linkAdded ls l = record { count = ls .count + 1; items = set (ls .items) (ls .count) l }
 
 -- with one node, one link or the question more
 unfoldable pub withNode : SoFar → ChartNode → SoFar
 withNode s n =
     let c = s .chart in
-    record {
-      chart = record {
-        nodes = record { count = c .nodes .count + 1; items = set (c .nodes .items) (c .nodes .count) n };
-        links = c .links;
-        from = c .from;
-        to = c .to;
-      };
-      asked = s .asked;
-    }
+    record { chart = record { nodes = nodeAdded (c .nodes) n; links = c .links; from = c .from; to = c .to }; asked = s .asked }
 
 unfoldable pub withLink : SoFar → Link → SoFar
 withLink s l =
     let c = s .chart in
-    record {
-      chart = record {
-        nodes = c .nodes;
-        links = record { count = c .links .count + 1; items = set (c .links .items) (c .links .count) l };
-        from = c .from;
-        to = c .to;
-      };
-      asked = s .asked;
-    }
+    record { chart = record { nodes = c .nodes; links = linkAdded (c .links) l; from = c .from; to = c .to }; asked = s .asked }
 
 unfoldable pub withQuestion : SoFar → Station → Station → SoFar
 withQuestion s from to = record { chart = record { nodes = s .chart .nodes; links = s .chart .links; from = from; to = to }; asked = true }
 
--- ---- the number of a body
+-- with the value of one body more, which has one of the three tags
+unfoldable pub withBody : SoFar → ℕ → List ℕ → SoFar
+withBody s tag b =
+    cond (eqb tag nodeTag) (withNode s (nodeIn b))
+    (cond (eqb tag linkTag) (withLink s (linkIn b))
+    (withQuestion s (stationIn b 0) (stationIn b 3)))
+
+-- ---- the number of a field
+
+-- the number that a node, a link or the question gets after what came before it
+pub record Refusing : Type 0 where
+  pub node : ChartNode → ℕ
+  pub link : Link → ℕ
+  pub question : Station → Station → ℕ
 
 -- a node comes too late after a link or the question
 unfoldable pub nodeLate : SoFar → Bool
 nodeLate s = s .asked || ltb 0 (s .chart .links .count)
 
+-- after what is held; a link and the question come too late after the question
+unfoldable pub refusing : SoFar → Refusing
+refusing s =
+    let c = s .chart in
+    record {
+      node = nodeNumber (nodeLate s) (c .nodes);
+      link = linkNumber (s .asked) (c .nodes) (c .links);
+      question = questionNumber (s .asked) (c .nodes);
+    }
+
 -- a node's body: 23 for a length that the tag does not allow, then the node's own number
-unfoldable pub nodeBodyNumber : SoFar → List ℕ → ℕ
-nodeBodyNumber s b =
+unfoldable pub nodeBodyNumber : (ChartNode → ℕ) → List ℕ → ℕ
+nodeBodyNumber number b =
     refuse 23 (ltb (length b) shortestNode)
     (refuse 23 (ltb longestNode (length b))
-    (nodeNumber (nodeLate s) (s .chart .nodes) (nodeIn b)))
+    (number (nodeIn b)))
 
 -- a link's last byte is 1 on or 0 off, else it is out of range
-unfoldable pub linkBodyNumber : SoFar → List ℕ → ℕ
-linkBodyNumber s b =
+unfoldable pub linkBodyNumber : (Link → ℕ) → List ℕ → ℕ
+linkBodyNumber number b =
     refuse 23 (not (eqb (length b) linkLength))
     (refuse 24 (ltb 1 (getD b 8 0))
-    (linkNumber (s .asked) (s .chart .nodes) (s .chart .links) (linkIn b)))
+    (number (linkIn b)))
 
 -- the question's body likewise
-unfoldable pub questionBodyNumber : SoFar → List ℕ → ℕ
-questionBodyNumber s b =
+unfoldable pub questionBodyNumber : (Station → Station → ℕ) → List ℕ → ℕ
+questionBodyNumber number b =
     refuse 23 (not (eqb (length b) questionLength))
-    (questionNumber (s .asked) (s .chart .nodes) (stationIn b 0) (stationIn b 3))
-
--- ---- one field
-
--- a number with what is then held: nothing beside a refusal
-unfoldable pub taking : ℕ → SoFar → Taken
-taking k s = record { number = k; «so_far» = unlessRefused k s nothing }
+    (number (stationIn b 0) (stationIn b 3))
 
 -- a body by its tag; 22 for any other tag
-unfoldable pub bodyTaken : SoFar → ℕ → List ℕ → Taken
-bodyTaken s tag b =
-    cond (eqb tag nodeTag) (taking (nodeBodyNumber s b) (withNode s (nodeIn b)))
-    (cond (eqb tag linkTag) (taking (linkBodyNumber s b) (withLink s (linkIn b)))
-    (cond (eqb tag questionTag) (taking (questionBodyNumber s b) (withQuestion s (stationIn b 0) (stationIn b 3)))
-    (taking 22 nothing)))
+unfoldable pub bodyNumber : Refusing → ℕ → List ℕ → ℕ
+bodyNumber r tag b =
+    cond (eqb tag nodeTag) (nodeBodyNumber (r .node) b)
+    (cond (eqb tag linkTag) (linkBodyNumber (r .link) b)
+    (cond (eqb tag questionTag) (questionBodyNumber (r .question) b)
+    22))
 
--- what was taken, and where the next field begins
-abbrev pub stepTo : ℕ → Taken → Step
-stepTo next t = record { number = t .number; next = next; «so_far» = t .«so_far» }
-
--- the field at a place; one that is cut short takes all that is left
-unfoldable pub stepOf : SoFar → List ℕ → ℕ → Step
-stepOf s bytes at =
-    cond (cutShort bytes at)
-    (stepTo (length bytes) (taking 21 nothing))
-    (stepTo (pastField bytes at) (bodyTaken s (tagAt bytes at) (bodyAt bytes at)))
+-- the field at a place: 21 where it is cut short
+unfoldable pub fieldNumber : Refusing → List ℕ → ℕ → ℕ
+fieldNumber r bytes at = refuse 21 (cutShort bytes at) (bodyNumber r (tagAt bytes at) (bodyAt bytes at))
 
 -- ---- all fields
 
@@ -121,8 +129,8 @@ onward (suc k) at go = refusedAt (suc k) at
 unfoldable pub walk : ℕ → SoFar → List ℕ → ℕ → ChartRead
 walk zero s bytes at = atEnd s (length bytes)
 walk (suc fuel) s bytes at =
-    let rest = (let step = stepOf s bytes at in onward (step .number) at (λ u. walk fuel (step .«so_far») bytes (step .next))) in
-    cond (leb (length bytes) at) (atEnd s (length bytes)) rest
+    cond (leb (length bytes) at) (atEnd s (length bytes))
+    (onward (fieldNumber (refusing s) bytes at) at (λ u. walk fuel (withBody s (tagAt bytes at) (bodyAt bytes at)) bytes (pastField bytes at)))
 
 -- the whole input. Each field has a byte at least, so there are no more fields than bytes
 unfoldable pub chartReadOf : List ℕ → ChartRead

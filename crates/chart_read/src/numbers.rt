@@ -6,7 +6,9 @@ ghost use mathlib.Core.Bool.{_||_};
 ghost use Prim.Native.Nat.{_<_};
 ghost use lib.ListN.{length};
 ghost use lib.Dec.{ltb};
-ghost use Rattle.chart_read.specs.ByKeys.{nodeBodyBy, linkBodyBy, questionBodyBy, bodyBy, fieldBy};
+ghost use Rattle.chart_keys.specs.Keys.{nodeByKeys, linkByKeys, questionByKeys};
+ghost use Rattle.chart_read.specs.Reading.{nodeBodyNumber, linkBodyNumber, questionBodyNumber, bodyNumber, fieldNumber};
+ghost use Rattle.chart_read.specs.ByKeys.{refusingBy};
 
 pub const NODE_TAG: u8 = 1;
 
@@ -24,7 +26,7 @@ const QUESTION_LENGTH: usize = 6;
 
 // A node's body.
 fn node_body_number(late: bool, keys: &[u32; 16], n: usize, b: &[u8]) -> u8
-    ensures { λ r. ⌜ r ≡ nodeBodyBy late (now (keys .entry)) n (now (b .entry)) ⌝ }
+    ensures { λ r. ⌜ r ≡ nodeBodyNumber (nodeByKeys late (now (keys .entry)) n) (now (b .entry)) ⌝ }
 {
     if b.len() < SHORTEST_NODE {
         return 23;
@@ -46,7 +48,7 @@ fn link_body_number(
     m: usize,
     b: &[u8],
 ) -> u8
-    ensures { λ r. ⌜ r ≡ linkBodyBy asked (now (keys .entry)) n (now (near .entry)) (now (far .entry)) m (now (b .entry)) ⌝ }
+    ensures { λ r. ⌜ r ≡ linkBodyNumber (linkByKeys asked (now (keys .entry)) n (now (near .entry)) (now (far .entry)) m) (now (b .entry)) ⌝ }
 {
     if b.len() != LINK_LENGTH {
         return 23;
@@ -60,7 +62,7 @@ fn link_body_number(
 
 // The question's body.
 fn question_body_number(asked: bool, keys: &[u32; 16], n: usize, b: &[u8]) -> u8
-    ensures { λ r. ⌜ r ≡ questionBodyBy asked (now (keys .entry)) n (now (b .entry)) ⌝ }
+    ensures { λ r. ⌜ r ≡ questionBodyNumber (questionByKeys asked (now (keys .entry)) n) (now (b .entry)) ⌝ }
 {
     if b.len() != QUESTION_LENGTH {
         return 23;
@@ -91,7 +93,7 @@ fn body_number(
     tag: u8,
     b: &[u8],
 ) -> u8
-    ensures { λ r. ⌜ r ≡ bodyBy asked (now (keys .entry)) n (now (near .entry)) (now (far .entry)) m tag (now (b .entry)) ⌝ }
+    ensures { λ r. ⌜ r ≡ bodyNumber (refusingBy asked (now (keys .entry)) n (now (near .entry)) (now (far .entry)) m) tag (now (b .entry)) ⌝ }
 {
     if tag == NODE_TAG {
         let late = node_late(asked, m);
@@ -118,7 +120,7 @@ pub fn field_number(
     at: usize,
 ) -> u8
     requires { ⌜ at < length (now bytes) ⌝ }
-    ensures { λ r. ⌜ r ≡ fieldBy asked (now (keys .entry)) n (now (near .entry)) (now (far .entry)) m (now (bytes .entry)) at ⌝ }
+    ensures { λ r. ⌜ r ≡ fieldNumber (refusingBy asked (now (keys .entry)) n (now (near .entry)) (now (far .entry)) m) (now (bytes .entry)) at ⌝ }
 {
     let tag = bytes[at];
     let total = bytes.len();

@@ -2,9 +2,8 @@
 use Prim.Native.Nat.{ℕ, _<_}
 use mathlib.Core.Path.{_≡_, refl, sym, ap, ap₂, _∙_}
 use mathlib.Core.Bool.{Bool, not, _&&_, _||_}
-use lib.Dec.{ltb, leb}
+use lib.Dec.{ltb}
 use Rattle.lists.specs.Places.{anyBelow, elementAt, row}
-use Rattle.lists.specs.Refusals.{refuse}
 use Rattle.lists.proofs.Places.{any-agree, row-at}
 use Rattle.address.specs.declared.Station.{Station}
 use Rattle.address.specs.declared.Address.{Address}
@@ -13,8 +12,8 @@ use Rattle.chart.specs.declared.ChartNode.{ChartNode}
 use Rattle.chart.specs.declared.Link.{Link}
 use Rattle.chart.specs.declared.Nodes.{Nodes}
 use Rattle.chart.specs.declared.Links.{Links}
-use Rattle.chart.specs.Values.{nodeAt, linkAt, strayByte, nodeInRange, linkInRange, standsAt, written, isEnd, endsAt, used}
-use Rattle.chart.specs.Numbers.{bothWritten, eitherUsed, nodeNumber, linkNumber, questionNumber}
+use Rattle.chart.specs.Values.{nodeAt, linkAt, strayByte, nodeInRange, standsAt, written, isEnd, endsAt, used}
+use Rattle.chart.specs.Numbers.{bothWritten, eitherUsed, nodeBy, linkBy, questionBy, nodeNumber, linkNumber, questionNumber}
 use Rattle.chart_write.specs.Writing.{tidyNode}
 
 -- the same stations at the places below the same count
@@ -39,15 +38,11 @@ module _ (ns ms : Nodes) (e : SameNodes ns ms) where
 
   pub node-agree : (late : Bool) (n : ChartNode) → nodeNumber late ns n ≡ nodeNumber late ms n
   unfolding nodeNumber
-  node-agree late n =
-      ap₂ (λ (k : ℕ) (w : Bool). refuse 23 (ltb 24 (n .length)) (refuse 24 (not (nodeInRange n)) (refuse 25 late (refuse 26 (leb 16 k) (refuse 27 w 0)))))
-      (e .count) (written-agree (n .station))
+  node-agree late n = ap₂ (λ (k : ℕ) (w : Bool). nodeBy late k w n) (e .count) (written-agree (n .station))
 
   pub question-agree : (late : Bool) (from to : Station) → questionNumber late ns from to ≡ questionNumber late ms from to
   unfolding questionNumber
-  question-agree late from to =
-      ap₂ (λ (k : ℕ) (w : Bool). refuse 24 (not (stationInRange from && stationInRange to)) (refuse 25 late (refuse 26 (ltb 16 k) (refuse 28 (not w) 0))))
-      (e .count) (both-agree from to)
+  question-agree late from to = ap₂ (λ (k : ℕ) (w : Bool). questionBy late k w from to) (e .count) (both-agree from to)
 
   module _ (ls ks : Links) (f : SameLinks ls ks) where
     used-agree : (a : Address) → used ls a ≡ used ks a
@@ -62,14 +57,12 @@ module _ (ns ms : Nodes) (e : SameNodes ns ms) where
 
     pub link-agree : (late : Bool) (l : Link) → linkNumber late ns ls l ≡ linkNumber late ms ks l
     unfolding linkNumber
-    link-agree late l = λ i.
-        refuse 24 (not (linkInRange l)) (refuse 25 late (refuse 26 (ltb 16 (e .count i)) (refuse 26 (leb 48 (f .count i))
-        (refuse 28 (not (both-agree (stationOf (l .a)) (stationOf (l .b)) i)) (refuse 29 (sameStation (stationOf (l .a)) (stationOf (l .b))) (refuse 30 (either-agree l i) 0))))))
+    link-agree late l = λ i. linkBy late (e .count i) (f .count i) (both-agree (stationOf (l .a)) (stationOf (l .b)) i) (either-agree l i) l
 
 -- a node's own number goes by its station, its label's length and whether the label is in range
 pub node-like : (late : Bool) (ns : Nodes) (n m : ChartNode) → n .station ≡ m .station → ltb 24 (n .length) ≡ ltb 24 (m .length)
     → nodeInRange n ≡ nodeInRange m → nodeNumber late ns n ≡ nodeNumber late ns m
-unfolding nodeNumber
+unfolding nodeNumber nodeBy
 node-like late ns n m p q r = rw (q, r, p)
 
 -- what stands past a label's length does not count

@@ -14,187 +14,164 @@ use Rattle.chart.specs.declared.Nodes.{Nodes}
 use Rattle.chart.specs.declared.Links.{Links}
 use Rattle.chart.specs.declared.Chart.{Chart}
 use Rattle.chart.specs.Values.{nodeAt, linkAt, nodeInRange, linkInRange, written}
-use Rattle.chart.specs.Numbers.{bothWritten, eitherUsed, nodeNumber, linkNumber, questionNumber}
-use Rattle.chart_read.specs.Held.{SoFar, Taken, Step}
+use Rattle.chart.specs.Numbers.{bothWritten, eitherUsed, nodeBy, linkBy, questionBy, nodeNumber, linkNumber, questionNumber}
 use Rattle.chart_read.specs.declared.ChartRead.{ChartRead}
 use Rattle.chart_read.specs.Fields.{tagAt, bodyAt, pastField, cutShort, nodeIn, linkIn}
-use Rattle.chart_read.specs.Reading.{nothing, withNode, withLink, withQuestion, nodeLate, nodeBodyNumber, linkBodyNumber, questionBodyNumber, taking, bodyTaken, stepTo, stepOf, refusedAt, atEnd, onward, walk, chartReadOf}
+use Rattle.chart_read.specs.Reading.{SoFar, nothing, nodeLate, refusing, nodeBodyNumber, linkBodyNumber, questionBodyNumber, bodyNumber, fieldNumber, refusedAt, atEnd, onward, walk, chartReadOf}
+use Rattle.chart_read.proofs.Walking.{heldPast}
 use Rattle.chart_write.specs.Numbers.{nodesBefore, linksBefore, nodeNumberAt, linkNumberAt, valuesNumber, chartNumber}
 use Rattle.chart_write.specs.Writing.{chartBytes, chartRefusal}
 use Rattle.chart_write.specs.Promises.{chartReaderNumbers, chartWriterNumbers}
 
 module _ (ks : List ℕ) where
-  either : (a b : ℕ) → among a ks ≡ true → among b ks ≡ true → among (orElse a b) ks ≡ true
-  either zero b p q = q
-  either (suc a) b p q = p
+  -- the number is one of these
+  record Given (n : ℕ) : Type 0 where
+    is : among n ks ≡ true
 
-  first : (d : ℕ → ℕ) → among 0 ks ≡ true → ((i : ℕ) → among (d i) ks ≡ true) → (n : ℕ) → among (firstNumber d n) ks ≡ true
+  tested : (n : ℕ) (t : Bool) {later : ℕ} → among n ks ≡ true → Given later → Given (refuse n t later)
+  tested n true p q = record { is = p }
+  tested n false p q = q
+
+  chosen : (t : Bool) {a b : ℕ} → Given a → Given b → Given (cond t a b)
+  chosen true p q = p
+  chosen false p q = q
+
+  either : (a : ℕ) {b : ℕ} → Given a → Given b → Given (orElse a b)
+  either zero p q = q
+  either (suc a) p q = p
+
+  first : (d : ℕ → ℕ) → Given 0 → ((i : ℕ) → Given (d i)) → (n : ℕ) → Given (firstNumber d n)
   unfolding firstNumber
   first d z h zero = z
-  first d z h (suc n) = either (firstNumber d n) (d n) (first d z h n) (h n)
+  first d z h (suc n) = either (firstNumber d n) (first d z h n) (h n)
 
--- ---- the writer
+-- ---- the writer: nothing comes too late
 
 abbrev W : List ℕ
 W = chartWriterNumbers
 
-node-tests : (a b d e : Bool) → among (refuse 23 a (refuse 24 b (refuse 25 false (refuse 26 d (refuse 27 e 0))))) W ≡ true
-node-tests true b d e = refl
-node-tests false true d e = refl
-node-tests false false true e = refl
-node-tests false false false true = refl
-node-tests false false false false = refl
+none-written : Given W 0
+none-written = record { is = refl }
 
-node-given : (ns : Nodes) (i : ℕ) → among (nodeNumberAt ns i) W ≡ true
-unfolding nodeNumberAt nodeNumber
-node-given ns i = node-tests (ltb 24 (nodeAt ns i .length)) (not (nodeInRange (nodeAt ns i))) (leb 16 i) (written (nodesBefore ns i) (nodeAt ns i .station))
+node-given : (ns : Nodes) (i : ℕ) → Given W (nodeNumberAt ns i)
+unfolding nodeNumberAt nodeNumber nodeBy
+node-given ns i =
+    let n = nodeAt ns i in
+    tested W 23 (ltb 24 (n .length)) refl
+    (tested W 24 (not (nodeInRange n)) refl
+    (tested W 26 (leb 16 i) refl
+    (tested W 27 (written (nodesBefore ns i) (n .station)) refl none-written)))
 
-link-tests : (a c d e f g : Bool) → among (refuse 24 a (refuse 25 false (refuse 26 c (refuse 26 d (refuse 28 e (refuse 29 f (refuse 30 g 0))))))) W ≡ true
-link-tests true c d e f g = refl
-link-tests false true d e f g = refl
-link-tests false false true e f g = refl
-link-tests false false false true f g = refl
-link-tests false false false false true g = refl
-link-tests false false false false false true = refl
-link-tests false false false false false false = refl
-
-link-given : (ns : Nodes) (ls : Links) (i : ℕ) → among (linkNumberAt ns ls i) W ≡ true
-unfolding linkNumberAt linkNumber
+link-given : (ns : Nodes) (ls : Links) (i : ℕ) → Given W (linkNumberAt ns ls i)
+unfolding linkNumberAt linkNumber linkBy
 link-given ns ls i =
     let l = linkAt ls i in
-    link-tests (not (linkInRange l)) (ltb 16 (ns .count)) (leb 48 i) (not (bothWritten ns (stationOf (l .a)) (stationOf (l .b)))) (sameStation (stationOf (l .a)) (stationOf (l .b))) (eitherUsed (linksBefore ls i) l)
+    tested W 24 (not (linkInRange l)) refl
+    (tested W 26 (ltb 16 (ns .count)) refl
+    (tested W 26 (leb 48 i) refl
+    (tested W 28 (not (bothWritten ns (stationOf (l .a)) (stationOf (l .b)))) refl
+    (tested W 29 (sameStation (stationOf (l .a)) (stationOf (l .b))) refl
+    (tested W 30 (eitherUsed (linksBefore ls i) l) refl none-written)))))
 
-question-tests : (a c d : Bool) → among (refuse 24 a (refuse 25 false (refuse 26 c (refuse 28 d 0)))) W ≡ true
-question-tests true c d = refl
-question-tests false true d = refl
-question-tests false false true = refl
-question-tests false false false = refl
+question-given : (ns : Nodes) (from to : Station) → Given W (questionNumber false ns from to)
+unfolding questionNumber questionBy
+question-given ns from to =
+    tested W 24 (not (stationInRange from && stationInRange to)) refl
+    (tested W 26 (ltb 16 (ns .count)) refl
+    (tested W 28 (not (bothWritten ns from to)) refl none-written))
 
-question-given : (ns : Nodes) (from to : Station) → among (questionNumber false ns from to) W ≡ true
-unfolding questionNumber
-question-given ns from to = question-tests (not (stationInRange from && stationInRange to)) (ltb 16 (ns .count)) (not (bothWritten ns from to))
+values-given : (c : Chart) → Given W (valuesNumber c)
+unfolding valuesNumber
+values-given c =
+    either W _ (first W (nodeNumberAt (c .nodes)) none-written (node-given (c .nodes)) (c .nodes .count))
+    (either W _ (first W (linkNumberAt (c .nodes) (c .links)) none-written (link-given (c .nodes) (c .links)) (c .links .count)) (question-given (c .nodes) (c .from) (c .to)))
 
 -- the counts come first, the room last
-count-tests : (a b : Bool) (k : ℕ) → among k W ≡ true → among (refuse 26 a (refuse 26 b k)) W ≡ true
-count-tests true b k h = refl
-count-tests false true k h = refl
-count-tests false false k h = h
-
-room-tests : (a : Bool) → among (refuse 10 a 0) W ≡ true
-room-tests true = refl
-room-tests false = refl
+refusal-given : (c : Chart) (room : ℕ) → Given W (chartRefusal c room)
+unfolding chartRefusal chartNumber
+refusal-given c room =
+    either W (chartNumber c) (tested W 26 (ltb 16 (c .nodes .count)) refl (tested W 26 (ltb 48 (c .links .count)) refl (values-given c)))
+    (tested W 10 (ltb room (length (chartBytes c))) refl none-written)
 
 pub writer-numbers : (c : Chart) (room : ℕ) → among (chartRefusal c room) chartWriterNumbers ≡ true
-unfolding chartRefusal chartNumber valuesNumber
-writer-numbers c room =
-    let n = firstNumber (nodeNumberAt (c .nodes)) (c .nodes .count) in
-    let l = firstNumber (linkNumberAt (c .nodes) (c .links)) (c .links .count) in
-    let q = questionNumber false (c .nodes) (c .from) (c .to) in
-    let v : among (orElse n (orElse l q)) W ≡ true =
-    either W n (orElse l q) (first W (nodeNumberAt (c .nodes)) refl (node-given (c .nodes)) (c .nodes .count))
-    (either W l q (first W (linkNumberAt (c .nodes) (c .links)) refl (link-given (c .nodes) (c .links)) (c .links .count)) (question-given (c .nodes) (c .from) (c .to))) in
-    either W (refuse 26 (ltb 16 (c .nodes .count)) (refuse 26 (ltb 48 (c .links .count)) (orElse n (orElse l q)))) (refuse 10 (ltb room (length (chartBytes c))) 0)
-    (count-tests (ltb 16 (c .nodes .count)) (ltb 48 (c .links .count)) (orElse n (orElse l q)) v) (room-tests (ltb room (length (chartBytes c))))
+writer-numbers c room = refusal-given c room .is
 
 -- ---- the reader
 
 abbrev R : List ℕ
 R = chartReaderNumbers
 
-node-read-tests : (a b c d e f g : Bool) → among (refuse 23 a (refuse 23 b (refuse 23 c (refuse 24 d (refuse 25 e (refuse 26 f (refuse 27 g 0))))))) R ≡ true
-node-read-tests true b c d e f g = refl
-node-read-tests false true c d e f g = refl
-node-read-tests false false true d e f g = refl
-node-read-tests false false false true e f g = refl
-node-read-tests false false false false true f g = refl
-node-read-tests false false false false false true g = refl
-node-read-tests false false false false false false true = refl
-node-read-tests false false false false false false false = refl
+none-read : Given R 0
+none-read = record { is = refl }
 
-node-read-given : (s : SoFar) (b : List ℕ) → among (nodeBodyNumber s b) R ≡ true
-unfolding nodeBodyNumber nodeNumber
-node-read-given s b =
-    let n = nodeIn b in
-    node-read-tests (ltb (length b) 3) (ltb 27 (length b)) (ltb 24 (n .length)) (not (nodeInRange n)) (nodeLate s) (leb 16 (s .chart .nodes .count)) (written (s .chart .nodes) (n .station))
+module _ (s : SoFar) (b : List ℕ) where
+  node-read-given : Given R (nodeBodyNumber (refusing s .node) b)
+  unfolding nodeBodyNumber refusing nodeNumber nodeBy
+  node-read-given =
+      let n = nodeIn b in
+      tested R 23 (ltb (length b) 3) refl
+      (tested R 23 (ltb 27 (length b)) refl
+      (tested R 23 (ltb 24 (n .length)) refl
+      (tested R 24 (not (nodeInRange n)) refl
+      (tested R 25 (nodeLate s) refl
+      (tested R 26 (leb 16 (s .chart .nodes .count)) refl
+      (tested R 27 (written (s .chart .nodes) (n .station)) refl none-read))))))
 
-link-read-tests : (a b c d e f g h i : Bool) → among (refuse 23 a (refuse 24 b (refuse 24 c (refuse 25 d (refuse 26 e (refuse 26 f (refuse 28 g (refuse 29 h (refuse 30 i 0))))))))) R ≡ true
-link-read-tests true b c d e f g h i = refl
-link-read-tests false true c d e f g h i = refl
-link-read-tests false false true d e f g h i = refl
-link-read-tests false false false true e f g h i = refl
-link-read-tests false false false false true f g h i = refl
-link-read-tests false false false false false true g h i = refl
-link-read-tests false false false false false false true h i = refl
-link-read-tests false false false false false false false true i = refl
-link-read-tests false false false false false false false false true = refl
-link-read-tests false false false false false false false false false = refl
+  link-read-given : Given R (linkBodyNumber (refusing s .link) b)
+  unfolding linkBodyNumber refusing linkNumber linkBy
+  link-read-given =
+      let l = linkIn b in
+      let ns = s .chart .nodes in
+      let ls = s .chart .links in
+      tested R 23 (not (eqb (length b) 9)) refl
+      (tested R 24 (ltb 1 (getD b 8 0)) refl
+      (tested R 24 (not (linkInRange l)) refl
+      (tested R 25 (s .asked) refl
+      (tested R 26 (ltb 16 (ns .count)) refl
+      (tested R 26 (leb 48 (ls .count)) refl
+      (tested R 28 (not (bothWritten ns (stationOf (l .a)) (stationOf (l .b)))) refl
+      (tested R 29 (sameStation (stationOf (l .a)) (stationOf (l .b))) refl
+      (tested R 30 (eitherUsed ls l) refl none-read))))))))
 
-link-read-given : (s : SoFar) (b : List ℕ) → among (linkBodyNumber s b) R ≡ true
-unfolding linkBodyNumber linkNumber
-link-read-given s b =
-    let l = linkIn b in
-    let ns = s .chart .nodes in
-    let ls = s .chart .links in
-    link-read-tests (not (eqb (length b) 9)) (ltb 1 (getD b 8 0)) (not (linkInRange l)) (s .asked) (ltb 16 (ns .count)) (leb 48 (ls .count)) (not (bothWritten ns (stationOf (l .a)) (stationOf (l .b)))) (sameStation (stationOf (l .a)) (stationOf (l .b))) (eitherUsed ls l)
+  question-read-given : Given R (questionBodyNumber (refusing s .question) b)
+  unfolding questionBodyNumber refusing questionNumber questionBy
+  question-read-given =
+      let from = stationIn b 0 in
+      let to = stationIn b 3 in
+      tested R 23 (not (eqb (length b) 6)) refl
+      (tested R 24 (not (stationInRange from && stationInRange to)) refl
+      (tested R 25 (s .asked) refl
+      (tested R 26 (ltb 16 (s .chart .nodes .count)) refl
+      (tested R 28 (not (bothWritten (s .chart .nodes) from to)) refl none-read))))
 
-question-read-tests : (a b c d e : Bool) → among (refuse 23 a (refuse 24 b (refuse 25 c (refuse 26 d (refuse 28 e 0))))) R ≡ true
-question-read-tests true b c d e = refl
-question-read-tests false true c d e = refl
-question-read-tests false false true d e = refl
-question-read-tests false false false true e = refl
-question-read-tests false false false false true = refl
-question-read-tests false false false false false = refl
+  body-given : (tag : ℕ) → Given R (bodyNumber (refusing s) tag b)
+  unfolding bodyNumber
+  body-given tag =
+      chosen R (eqb tag 1) node-read-given (chosen R (eqb tag 2) link-read-given (chosen R (eqb tag 3) question-read-given (record { is = refl })))
 
-question-read-given : (s : SoFar) (b : List ℕ) → among (questionBodyNumber s b) R ≡ true
-unfolding questionBodyNumber questionNumber
-question-read-given s b =
-    let from = stationIn b 0 in
-    let to = stationIn b 3 in
-    question-read-tests (not (eqb (length b) 6)) (not (stationInRange from && stationInRange to)) (s .asked) (ltb 16 (s .chart .nodes .count)) (not (bothWritten (s .chart .nodes) from to))
+field-given : (s : SoFar) (bytes : List ℕ) (at : ℕ) → Given R (fieldNumber (refusing s) bytes at)
+unfolding fieldNumber
+field-given s bytes at = tested R 21 (cutShort bytes at) refl (body-given s (bodyAt bytes at) (tagAt bytes at))
 
-taken-of : (t : Bool) (a b : Taken) → among (a .number) R ≡ true → among (b .number) R ≡ true → among (cond t a b .number) R ≡ true
-taken-of true a b p q = p
-taken-of false a b p q = q
-
-step-of : (t : Bool) (a b : Step) → among (a .number) R ≡ true → among (b .number) R ≡ true → among (cond t a b .number) R ≡ true
-step-of true a b p q = p
-step-of false a b p q = q
-
-read-of : (t : Bool) (a b : ChartRead) → among (a .number) R ≡ true → among (b .number) R ≡ true → among (cond t a b .number) R ≡ true
+read-of : (t : Bool) (a b : ChartRead) → Given R (a .number) → Given R (b .number) → Given R (cond t a b .number)
 read-of true a b p q = p
 read-of false a b p q = q
 
-body-given : (s : SoFar) (tag : ℕ) (b : List ℕ) → among (bodyTaken s tag b .number) R ≡ true
-unfolding bodyTaken taking
-body-given s tag b =
-    let A = taking (nodeBodyNumber s b) (withNode s (nodeIn b)) in
-    let B = taking (linkBodyNumber s b) (withLink s (linkIn b)) in
-    let C = taking (questionBodyNumber s b) (withQuestion s (stationIn b 0) (stationIn b 3)) in
-    let D = taking 22 nothing in
-    taken-of (eqb tag 1) A (cond (eqb tag 2) B (cond (eqb tag 3) C D)) (node-read-given s b)
-    (taken-of (eqb tag 2) B (cond (eqb tag 3) C D) (link-read-given s b) (taken-of (eqb tag 3) C D (question-read-given s b) refl))
+end-given : (s : SoFar) (long : ℕ) → Given R (atEnd s long .number)
+end-given s long = read-of (s .asked) (record { number = 0; place = 0; chart = s .chart }) (refusedAt 31 long) none-read (record { is = refl })
 
-step-given : (s : SoFar) (bytes : List ℕ) (at : ℕ) → among (stepOf s bytes at .number) R ≡ true
-unfolding stepOf taking
-step-given s bytes at =
-    step-of (cutShort bytes at) (stepTo (length bytes) (taking 21 nothing)) (stepTo (pastField bytes at) (bodyTaken s (tagAt bytes at) (bodyAt bytes at))) refl
-    (body-given s (tagAt bytes at) (bodyAt bytes at))
-
-end-given : (s : SoFar) (long : ℕ) → among (atEnd s long .number) R ≡ true
-end-given s long = read-of (s .asked) (record { number = 0; place = 0; chart = s .chart }) (refusedAt 31 long) refl refl
-
-onward-given : (n at : ℕ) (go : Unit {0} → ChartRead) → among n R ≡ true → among (go tt .number) R ≡ true → among (onward n at go .number) R ≡ true
+onward-given : (n at : ℕ) (go : Unit {0} → ChartRead) → Given R n → Given R (go tt .number) → Given R (onward n at go .number)
 onward-given zero at go p q = q
 onward-given (suc n) at go p q = p
 
-walk-given : (k : ℕ) (s : SoFar) (bytes : List ℕ) (at : ℕ) → among (walk k s bytes at .number) R ≡ true
+walk-given : (k : ℕ) (s : SoFar) (bytes : List ℕ) (at : ℕ) → Given R (walk k s bytes at .number)
 unfolding walk
 walk-given zero s bytes at = end-given s (length bytes)
 walk-given (suc k) s bytes at =
-    let st = stepOf s bytes at in
-    read-of (leb (length bytes) at) (atEnd s (length bytes)) (onward (st .number) at (λ u. walk k (st .«so_far») bytes (st .next))) (end-given s (length bytes))
-    (onward-given (st .number) at (λ u. walk k (st .«so_far») bytes (st .next)) (step-given s bytes at) (walk-given k (stepOf s bytes at .«so_far») bytes (stepOf s bytes at .next)))
+    read-of (leb (length bytes) at) (atEnd s (length bytes)) _ (end-given s (length bytes))
+    (onward-given (fieldNumber (refusing s) bytes at) at (λ u. walk k (heldPast s bytes at) bytes (pastField bytes at)) (field-given s bytes at)
+    (walk-given k (heldPast s bytes at) bytes (pastField bytes at)))
 
 pub reader-numbers : (bytes : List ℕ) → among (chartReadOf bytes .number) chartReaderNumbers ≡ true
 unfolding chartReadOf
-reader-numbers bytes = walk-given (length bytes) nothing bytes 0
+reader-numbers bytes = walk-given (length bytes) nothing bytes 0 .is

@@ -21,7 +21,6 @@ use Rattle.lists.proofs.Stores.{sets-append, sets-front}
 use Rattle.lists.proofs.Runs.{length-joined-next, joined-put}
 use Rattle.lists.proofs.Writing.{wrote-number, wrote-count, wrote-taken, wrote-refused}
 use Rattle.address.specs.declared.Station.{Station}
-use Rattle.address.specs.Address.{stationOf}
 use Rattle.chart.specs.declared.ChartNode.{ChartNode}
 use Rattle.chart.specs.declared.Link.{Link}
 use Rattle.chart.specs.declared.Nodes.{Nodes}
@@ -29,7 +28,7 @@ use Rattle.chart.specs.declared.Links.{Links}
 use Rattle.chart.specs.declared.Chart.{Chart}
 use Rattle.chart.specs.Values.{nodeAt, linkAt}
 use Rattle.chart.specs.Numbers.{questionNumber}
-use Rattle.chart_keys.specs.Keys.{KeyedNodes, KeyedLinks, known, bothKnown, eitherBy, nodeBy, linkBy}
+use Rattle.chart_keys.specs.Keys.{KeyedNodes, KeyedLinks, nodeByKeys, linkByKeys}
 use Rattle.chart_keys.proofs.ByKeys.{node-keyed, link-keyed}
 use Rattle.chart.proofs.Laws.{node-read, link-read, NodePassed, node-passed, LinkPassed, link-passed}
 use Rattle.chart_write.specs.Numbers.{nodesBefore, linksBefore, nodeNumberAt, linkNumberAt, valuesNumber, chartNumber}
@@ -103,20 +102,17 @@ link-stored ls d i at l m b h g f =
 
 -- a value's number by the keys before it
 pub node-number-read : (ns : Nodes) (keys : List ℕ) → KeyedNodes ns keys → (d : ChartNode) (i : ℕ) → i < ns .count → i < length (ns .items)
-    → nodeBy false i (known keys i (getD (ns .items) i d .station)) (getD (ns .items) i d) ≡ nodeNumberAt ns i
+    → nodeByKeys false keys i (getD (ns .items) i d) ≡ nodeNumberAt ns i
 unfolding nodeNumberAt nodeAt
 node-number-read ns keys h d i l m =
-    let e = node-read ns d i m in
-    ap (λ (n : ChartNode). nodeBy false i (known keys i (n .station)) n) e
+    ap (nodeByKeys false keys i) (node-read ns d i m)
     ∙ node-keyed (nodesBefore ns i) keys (λ j k. h j (omega arith)) false (nodeAt ns i) (h i l .node)
 
 pub link-number-read : (ns : Nodes) (keys : List ℕ) → KeyedNodes ns keys → (ls : Links) (near far : List ℕ) → KeyedLinks ls near far → (d : Link) (i : ℕ) → i < ls .count → i < length (ls .items)
-    → linkBy false (ns .count) i (bothKnown keys (ns .count) (stationOf (getD (ls .items) i d .a)) (stationOf (getD (ls .items) i d .b))) (eitherBy near far i (getD (ls .items) i d)) (getD (ls .items) i d)
-    ≡ linkNumberAt ns ls i
+    → linkByKeys false keys (ns .count) near far i (getD (ls .items) i d) ≡ linkNumberAt ns ls i
 unfolding linkNumberAt linkAt
 link-number-read ns keys h ls near far g d i l m =
-    let e = link-read ls d i m in
-    ap (λ (x : Link). linkBy false (ns .count) i (bothKnown keys (ns .count) (stationOf (x .a)) (stationOf (x .b))) (eitherBy near far i x) x) e
+    ap (linkByKeys false keys (ns .count) near far i) (link-read ls d i m)
     ∙ link-keyed ns keys h (linksBefore ls i) near far (record { a = λ j k. g .a j (omega arith); b = λ j k. g .b j (omega arith) }) false (linkAt ls i) _ _ (g .a i l) (g .b i l)
 
 -- the parts of a chart, one after the other

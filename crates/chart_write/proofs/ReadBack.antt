@@ -14,19 +14,19 @@ use Rattle.lists.specs.Places.{elementAt, firsts, row, joined}
 use Rattle.lists.specs.Refusals.{refuse}
 use Rattle.lists.specs.Chains.{firstNumber}
 use Rattle.lists.proofs.Places.{firsts-at, row-agree, joined-next}
-use Rattle.lists.proofs.Refusals.{taken, or-pass}
+use Rattle.lists.proofs.Refusals.{or-pass}
 use Rattle.lists.proofs.Chains.{FirstBad}
 use Rattle.lists.proofs.Runs.{joined-at-place}
 use Rattle.address.specs.declared.Station.{Station}
 use Rattle.address.specs.Wide.{stationBytes, stationIn}
 use Rattle.chart.specs.declared.ChartNode.{ChartNode}
 use Rattle.chart.specs.declared.Link.{Link}
-use Rattle.chart.specs.Numbers.{nodeNumber, linkNumber, questionNumber}
-use Rattle.chart_read.specs.Held.{SoFar, Step}
-use Rattle.chart_read.specs.Fields.{tagged, bytesFrom, nodeIn, linkIn}
-use Rattle.chart_read.specs.Reading.{nothing, nodeLate, nodeBodyNumber, linkBodyNumber, questionBodyNumber, taking, bodyTaken, stepTo, stepOf, refusedAt, chartReadOf}
-use Rattle.chart_read.proofs.Fields.{step-there, begins-there, past-there}
-use Rattle.chart_read.proofs.Walking.{Reaches, reach-next, reach-refused}
+use Rattle.chart.specs.declared.Nodes.{Nodes}
+use Rattle.chart.specs.Numbers.{nodeBy, nodeNumber}
+use Rattle.chart_read.specs.Fields.{tagged, pastField, bytesFrom, nodeIn, linkIn}
+use Rattle.chart_read.specs.Reading.{SoFar, withBody, refusing, nodeBodyNumber, linkBodyNumber, questionBodyNumber, bodyNumber, fieldNumber, refusedAt, chartReadOf}
+use Rattle.chart_read.proofs.Fields.{number-there, held-there, begins-there, past-there}
+use Rattle.chart_read.proofs.Walking.{heldPast, Reaches, reach-next, reach-refused}
 use Rattle.chart_write.specs.Writing.{nodeBody, onByte, linkBody, questionBody, tidyNode}
 use Rattle.chart_write.proofs.Laws.{length-node-body}
 use Rattle.chart_write.proofs.Agree.{tidy-number}
@@ -52,19 +52,17 @@ node-back n =
     λ i. record { station = s i; length = k i; label = r i }
 
 -- a label of more than 24 bytes is refused by the length of its field, as by its own number
-pub node-number-back : (s : SoFar) (n : ChartNode) → nodeBodyNumber s (nodeBody n) ≡ nodeNumber (nodeLate s) (s .chart .nodes) n
+pub node-number-back : (late : Bool) (ns : Nodes) (n : ChartNode) → nodeBodyNumber (nodeNumber late ns) (nodeBody n) ≡ nodeNumber late ns n
 unfolding nodeBodyNumber
-node-number-back s n =
-    let late = nodeLate s in
-    let ns = s .chart .nodes in
+node-number-back late ns n =
     rw (le-ltb (length (nodeBody n)) 3 (omega (arith, length-node-body n)))
     (by (ltb 24 (n .length)) refl (ap (nodeNumber late ns) (node-back n) ∙ tidy-number late ns n))
   where
-    by : (b : Bool) → ltb 24 (n .length) ≡ b → nodeNumber (nodeLate s) (s .chart .nodes) (nodeIn (nodeBody n)) ≡ nodeNumber (nodeLate s) (s .chart .nodes) n
-        → refuse 23 (ltb 27 (length (nodeBody n))) (nodeNumber (nodeLate s) (s .chart .nodes) (nodeIn (nodeBody n))) ≡ nodeNumber (nodeLate s) (s .chart .nodes) n
+    by : (b : Bool) → ltb 24 (n .length) ≡ b → nodeNumber late ns (nodeIn (nodeBody n)) ≡ nodeNumber late ns n
+        → refuse 23 (ltb 27 (length (nodeBody n))) (nodeNumber late ns (nodeIn (nodeBody n))) ≡ nodeNumber late ns n
     by true h e =
         let l : 24 < n .length = ltb-true 24 (n .length) h in
-        rw (lt-ltb 27 (length (nodeBody n)) (omega (arith, length-node-body n))) (unfold nodeNumber in rw h refl)
+        rw (lt-ltb 27 (length (nodeBody n)) (omega (arith, length-node-body n))) (unfold nodeNumber nodeBy in rw h refl)
     by false h e =
         let l : n .length ≤ 24 = ltb-false 24 (n .length) h in
         rw (le-ltb 27 (length (nodeBody n)) (omega (arith, length-node-body n))) e
@@ -88,35 +86,30 @@ link-back l =
       on = on-back (l .on) i;
     }
 
-pub link-number-back : (s : SoFar) (l : Link) → linkBodyNumber s (linkBody l) ≡ linkNumber (s .asked) (s .chart .nodes) (s .chart .links) l
+pub link-number-back : (number : Link → ℕ) (l : Link) → linkBodyNumber number (linkBody l) ≡ number l
 unfolding linkBodyNumber
-link-number-back s l =
+link-number-back number l =
     let e : getD (linkBody l) 8 0 ≡ onByte (l .on) = unfold linkBody in refl in
     let n : length (linkBody l) ≡ 9 = unfold linkBody in refl in
-    rw (n, e, on-small (l .on)) (ap (linkNumber (s .asked) (s .chart .nodes) (s .chart .links)) (link-back l))
+    rw (n, e, on-small (l .on)) (ap number (link-back l))
 
 pub question-back : (from to : Station) → (stationIn (questionBody from to) 0 ≡ from) × (stationIn (questionBody from to) 3 ≡ to)
 unfolding questionBody
 question-back from to = (station-back from (stationBytes to), station-back to [])
 
-pub question-number-back : (s : SoFar) (from to : Station) → questionBodyNumber s (questionBody from to) ≡ questionNumber (s .asked) (s .chart .nodes) from to
+pub question-number-back : (number : Station → Station → ℕ) (from to : Station) → questionBodyNumber number (questionBody from to) ≡ number from to
 unfolding questionBodyNumber
-question-number-back s from to =
+question-number-back number from to =
     let n : length (questionBody from to) ≡ 6 = unfold questionBody in refl in
     let q = question-back from to in
-    rw n (ap₂ (questionNumber (s .asked) (s .chart .nodes)) (q .0) (q .1))
+    rw n (ap₂ number (q .0) (q .1))
 
 -- ---- a run of fields, one after the other
 
--- a body that is taken leaves what its value adds
-pub held-of : (k : ℕ) (s : SoFar) → k ≡ 0 → taking k s .«so_far» ≡ s
-unfolding taking
-held-of k s e = taken s nothing e
-
 module _ {A : Type 0} (tag : ℕ) (body : A → List ℕ) (field : A → List ℕ) (is : (x : A) → field x ≡ tagged tag (body x))
     (d : ℕ → A) (n : ℕ) (S : ℕ → SoFar) (num : ℕ → ℕ) (pre post : List ℕ)
-    (number : (i : ℕ) → i < n → bodyTaken (S i) tag (body (d i)) .number ≡ num i)
-    (held : (i : ℕ) → i < n → num i ≡ 0 → bodyTaken (S i) tag (body (d i)) .«so_far» ≡ S (i + 1)) where
+    (number : (i : ℕ) → i < n → bodyNumber (refusing (S i)) tag (body (d i)) ≡ num i)
+    (held : (i : ℕ) → i < n → withBody (S i) tag (body (d i)) ≡ S (i + 1)) where
   abbrev input : List ℕ
   input = pre ++ (joined field d n ++ post)
 
@@ -135,19 +128,28 @@ module _ {A : Type 0} (tag : ℕ) (body : A → List ℕ) (field : A → List �
             ∙ ap (λ (x : List ℕ). (pre ++ F) ++ (x ++ (r .0 ++ post))) (is (d i)),
       )
 
-  step-here : (i : ℕ) → i < n → stepOf (S i) input (placeOf i) ≡ stepTo (placeOf i + 3 + length (body (d i))) (bodyTaken (S i) tag (body (d i)))
-  step-here i h =
+  number-here : (i : ℕ) → i < n → fieldNumber (refusing (S i)) input (placeOf i) ≡ num i
+  number-here i h =
       let a = around i h in
-      ap (λ (b : List ℕ). stepOf (S i) b (placeOf i)) (a .1) ∙ step-there (pre ++ joined field d i) tag (body (d i)) (a .0) (S i)
+      ap (λ (b : List ℕ). fieldNumber (refusing (S i)) b (placeOf i)) (a .1)
+      ∙ number-there (pre ++ joined field d i) tag (body (d i)) (a .0) (refusing (S i))
+      ∙ number i h
+
+  held-here : (i : ℕ) → i < n → heldPast (S i) input (placeOf i) ≡ S (i + 1)
+  held-here i h =
+      let a = around i h in
+      ap (λ (b : List ℕ). heldPast (S i) b (placeOf i)) (a .1) ∙ held-there (pre ++ joined field d i) tag (body (d i)) (a .0) (S i) ∙ held i h
 
   begins-here : (i : ℕ) → i < n → placeOf i < length input
   begins-here i h =
       let a = around i h in
       subst (λ (b : List ℕ). placeOf i < length b) (sym (a .1)) (begins-there (pre ++ joined field d i) tag (body (d i)) (a .0))
 
-  past-here : (i : ℕ) → placeOf i + 3 + length (body (d i)) ≡ placeOf (i + 1)
-  past-here i =
-      past-there (pre ++ joined field d i) tag (body (d i)) []
+  past-here : (i : ℕ) → i < n → pastField input (placeOf i) ≡ placeOf (i + 1)
+  past-here i h =
+      let a = around i h in
+      ap (λ (b : List ℕ). pastField b (placeOf i)) (a .1)
+      ∙ past-there (pre ++ joined field d i) tag (body (d i)) (a .0)
       ∙ ap length (ap (λ (x : List ℕ). (pre ++ joined field d i) ++ x) (sym (is (d i))) ∙ append-assoc pre (joined field d i) (field (d i)) ∙ ap (λ (x : List ℕ). pre ++ x) (sym (joined-next field d i)))
 
   -- all before place i are taken
@@ -156,19 +158,15 @@ module _ {A : Type 0} (tag : ℕ) (body : A → List ℕ) (field : A → List �
   run-reaches r (suc i) h z =
       let p : (firstNumber num i ≡ 0) × (num i ≡ 0) = unfold firstNumber in or-pass (firstNumber num i) (num i) z in
       let l : i < n = omega arith in
-      let st = stepOf (S i) input (placeOf i) in
-      let k : st .number ≡ 0 = ap (λ (x : Step). x .number) (step-here i l) ∙ number i l ∙ p .1 in
-      let g = reach-next input (S i) (placeOf i) (begins-here i l) st refl (run-reaches r i (omega arith) (p .0)) k in
-      let e : st .«so_far» ≡ S (suc i) = ap (λ (x : Step). x .«so_far») (step-here i l) ∙ held i l (p .1) ∙ ap S (add-one i) in
-      let q : st .next ≡ placeOf (suc i) = ap (λ (x : Step). x .next) (step-here i l) ∙ past-here i ∙ ap placeOf (add-one i) in
-      subst (λ (t : SoFar). Reaches input t (placeOf (suc i))) e (subst (λ (a : ℕ). Reaches input (st .«so_far») a) q g)
+      let g = reach-next input (S i) (placeOf i) (begins-here i l) (run-reaches r i (omega arith) (p .0)) (number-here i l ∙ p .1) in
+      subst (λ (t : SoFar). Reaches input t (placeOf (suc i))) (held-here i l ∙ ap S (add-one i))
+      (subst (λ (a : ℕ). Reaches input (heldPast (S i) input (placeOf i)) a) (past-here i l ∙ ap placeOf (add-one i)) g)
 
   -- the first bad one decides
   pub run-refused : Reaches input (S 0) (placeOf 0) → (b : FirstBad num n) → chartReadOf input ≡ refusedAt (firstNumber num n) (placeOf (b .place))
   run-refused r b =
       let i = b .place in
       let l = b .below in
-      let st = stepOf (S i) input (placeOf i) in
-      let k : st .number ≡ num i = ap (λ (x : Step). x .number) (step-here i l) ∙ number i l in
+      let k = number-here i l in
       sym (ap (λ (m : ℕ). refusedAt m (placeOf i)) (b .same ∙ sym k)
-      ∙ reach-refused input (S i) (placeOf i) (begins-here i l) st refl (run-reaches r i (omega (arith, l)) (b .before)) (λ z. b .bad (sym k ∙ z)))
+      ∙ reach-refused input (S i) (placeOf i) (begins-here i l) (run-reaches r i (omega (arith, l)) (b .before)) (λ z. b .bad (sym k ∙ z)))

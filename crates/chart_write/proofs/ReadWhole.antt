@@ -1,6 +1,6 @@
 -- Reading undoes writing, of a whole chart: its nodes, its links and its question are three runs, and the number is that of the first bad value.
 use Prim.Native.Nat.{ℕ, zero, suc, _+_, _<_, _≤_}
-use mathlib.Core.Path.{_≡_, refl, sym, ap, subst, _∙_}
+use mathlib.Core.Path.{_≡_, refl, sym, ap, ap₂, subst, _∙_}
 use mathlib.Core.List.{List, [], _++_, append-assoc, append-nil}
 use mathlib.Core.Bool.{true, false}
 use native.Mathlib.Nat.{le-refl}
@@ -17,14 +17,13 @@ use Rattle.chart.specs.declared.Links.{Links}
 use Rattle.chart.specs.declared.Chart.{Chart}
 use Rattle.chart.specs.Values.{noStation, noNode, noLink, noChart, nodeAt, linkAt}
 use Rattle.chart.specs.Numbers.{questionNumber}
-use Rattle.chart_read.specs.Held.{SoFar}
 use Rattle.chart_read.specs.declared.ChartRead.{ChartRead}
-use Rattle.chart_read.specs.Reading.{nothing, withNode, withLink, withQuestion, nodeLate, nodeBodyNumber, linkBodyNumber, questionBodyNumber, taking, bodyTaken, refusedAt, chartReadOf}
+use Rattle.chart_read.specs.Reading.{SoFar, nothing, withNode, withLink, withQuestion, withBody, nodeLate, refusing, bodyNumber, refusedAt, chartReadOf}
 use Rattle.chart_read.proofs.Walking.{Reaches, reach-start, reach-end}
 use Rattle.chart_write.specs.Numbers.{nodesBefore, linksBefore, nodeNumberAt, linkNumberAt, valuesNumber}
 use Rattle.chart_write.specs.Writing.{nodeBody, linkBody, questionBody, nodeField, linkField, questionField, chartBytes, tidyNode, tidyAt, tidy}
 use Rattle.chart_write.proofs.Agree.{SameNodes, SameLinks, node-agree, link-agree, question-agree}
-use Rattle.chart_write.proofs.ReadBack.{node-back, link-back, question-back, node-number-back, link-number-back, question-number-back, held-of, run-reaches, run-refused}
+use Rattle.chart_write.proofs.ReadBack.{node-back, link-back, question-back, node-number-back, link-number-back, question-number-back, run-reaches, run-refused}
 
 -- what is held after the first i nodes, and after all nodes and the first i links
 unfoldable heldNodes : Nodes → ℕ → SoFar
@@ -121,54 +120,35 @@ same-links ls i = record { count = refl; links = λ j h. sym (row-at 48 noLink (
 
 -- ---- the numbers of the three runs, and what is then held
 
-node-number : (ns : Nodes) (i : ℕ) → bodyTaken (heldNodes ns i) 1 (nodeBody (nodeAt ns i)) .number ≡ nodeNumberAt ns i
-unfolding bodyTaken taking heldNodes nodeLate nodeNumberAt
-node-number ns i = node-number-back (heldNodes ns i) (nodeAt ns i) ∙ node-agree _ _ (same-nodes ns i) false (nodeAt ns i)
+node-number : (ns : Nodes) (i : ℕ) → bodyNumber (refusing (heldNodes ns i)) 1 (nodeBody (nodeAt ns i)) ≡ nodeNumberAt ns i
+unfolding bodyNumber refusing heldNodes nodeLate nodeNumberAt
+node-number ns i = node-number-back false _ (nodeAt ns i) ∙ node-agree _ _ (same-nodes ns i) false (nodeAt ns i)
 
-node-held : (ns : Nodes) (i : ℕ) → i < 16 → nodeNumberAt ns i ≡ 0 → bodyTaken (heldNodes ns i) 1 (nodeBody (nodeAt ns i)) .«so_far» ≡ heldNodes ns (i + 1)
-unfolding bodyTaken
-node-held ns i h z =
-    held-of (nodeBodyNumber (heldNodes ns i) (nodeBody (nodeAt ns i))) _ (at-zero ∙ z)
-    ∙ ap (withNode (heldNodes ns i)) (node-back (nodeAt ns i)) ∙ nodes-next ns i h
-  where
-    at-zero : nodeBodyNumber (heldNodes ns i) (nodeBody (nodeAt ns i)) ≡ nodeNumberAt ns i
-    at-zero = unfold taking in node-number ns i
+node-held : (ns : Nodes) (i : ℕ) → i < 16 → withBody (heldNodes ns i) 1 (nodeBody (nodeAt ns i)) ≡ heldNodes ns (i + 1)
+unfolding withBody
+node-held ns i h = ap (withNode (heldNodes ns i)) (node-back (nodeAt ns i)) ∙ nodes-next ns i h
 
-link-number : (c : Chart) (i : ℕ) → bodyTaken (heldLinks c i) 2 (linkBody (linkAt (c .links) i)) .number ≡ linkNumberAt (c .nodes) (c .links) i
-unfolding bodyTaken taking heldLinks linkNumberAt
+link-number : (c : Chart) (i : ℕ) → bodyNumber (refusing (heldLinks c i)) 2 (linkBody (linkAt (c .links) i)) ≡ linkNumberAt (c .nodes) (c .links) i
+unfolding bodyNumber refusing heldLinks linkNumberAt
 link-number c i =
-    link-number-back (heldLinks c i) (linkAt (c .links) i)
+    link-number-back _ (linkAt (c .links) i)
     ∙ link-agree _ _ (same-nodes (c .nodes) (c .nodes .count)) _ _ (same-links (c .links) i) false (linkAt (c .links) i)
 
-link-held : (c : Chart) (i : ℕ) → i < 48 → linkNumberAt (c .nodes) (c .links) i ≡ 0
-    → bodyTaken (heldLinks c i) 2 (linkBody (linkAt (c .links) i)) .«so_far» ≡ heldLinks c (i + 1)
-unfolding bodyTaken
-link-held c i h z =
-    held-of (linkBodyNumber (heldLinks c i) (linkBody (linkAt (c .links) i))) _ (at-zero ∙ z)
-    ∙ ap (withLink (heldLinks c i)) (link-back (linkAt (c .links) i)) ∙ links-next c i h
-  where
-    at-zero : linkBodyNumber (heldLinks c i) (linkBody (linkAt (c .links) i)) ≡ linkNumberAt (c .nodes) (c .links) i
-    at-zero = unfold taking in link-number c i
+link-held : (c : Chart) (i : ℕ) → i < 48 → withBody (heldLinks c i) 2 (linkBody (linkAt (c .links) i)) ≡ heldLinks c (i + 1)
+unfolding withBody
+link-held c i h = ap (withLink (heldLinks c i)) (link-back (linkAt (c .links) i)) ∙ links-next c i h
 
-question-number : (c : Chart) → bodyTaken (heldLinks c (c .links .count)) 3 (questionBody (c .from) (c .to)) .number ≡ questionNumber false (c .nodes) (c .from) (c .to)
-unfolding bodyTaken taking heldLinks
+question-number : (c : Chart) → bodyNumber (refusing (heldLinks c (c .links .count))) 3 (questionBody (c .from) (c .to)) ≡ questionNumber false (c .nodes) (c .from) (c .to)
+unfolding bodyNumber refusing heldLinks
 question-number c =
-    question-number-back (heldLinks c (c .links .count)) (c .from) (c .to)
+    question-number-back _ (c .from) (c .to)
     ∙ question-agree _ _ (same-nodes (c .nodes) (c .nodes .count)) false (c .from) (c .to)
 
-question-held : (c : Chart) → questionNumber false (c .nodes) (c .from) (c .to) ≡ 0
-    → bodyTaken (heldLinks c (c .links .count)) 3 (questionBody (c .from) (c .to)) .«so_far» ≡ record { chart = tidy c; asked = true }
-unfolding bodyTaken
-question-held c z =
+question-held : (c : Chart) → withBody (heldLinks c (c .links .count)) 3 (questionBody (c .from) (c .to)) ≡ record { chart = tidy c; asked = true }
+unfolding withBody
+question-held c =
     let q = question-back (c .from) (c .to) in
-    held-of (questionBodyNumber (heldLinks c (c .links .count)) (questionBody (c .from) (c .to))) _ (at-zero ∙ z)
-    ∙ (λ j. withQuestion (heldLinks c (c .links .count)) (q .0 j) (q .1 j)) ∙ all
-  where
-    at-zero : questionBodyNumber (heldLinks c (c .links .count)) (questionBody (c .from) (c .to)) ≡ questionNumber false (c .nodes) (c .from) (c .to)
-    at-zero = unfold taking in question-number c
-
-    all : withQuestion (heldLinks c (c .links .count)) (c .from) (c .to) ≡ record { chart = tidy c; asked = true }
-    all = unfold withQuestion heldLinks tidy in refl
+    ap₂ (withQuestion (heldLinks c (c .links .count))) (q .0) (q .1) ∙ (unfold withQuestion heldLinks tidy in refl)
 
 -- ---- the whole chart
 
@@ -214,7 +194,7 @@ module _ (c : Chart) (few-nodes : c .nodes .count ≤ 16) (few-links : c .links 
       (subst (λ (l : List ℕ). Reaches (chartBytes c) (heldNodes (c .nodes) (c .nodes .count)) (length l))
       (sym (append-nil N) ∙ ap (λ (l : List ℕ). N ++ l) (sym (joined-none linkField (linkAt (c .links)))))
       (run-reaches 1 nodeBody nodeField (λ x. refl) (nodeAt (c .nodes)) (c .nodes .count) (heldNodes (c .nodes)) nodeNum [] (L ++ Q)
-      (λ i h. node-number (c .nodes) i) (λ i h e. node-held (c .nodes) i (omega arith) e) nodes-reached (c .nodes .count) (le-refl (c .nodes .count)) z))
+      (λ i h. node-number (c .nodes) i) (λ i h. node-held (c .nodes) i (omega arith)) nodes-reached (c .nodes .count) (le-refl (c .nodes .count)) z))
 
   question-input : chartBytes c ≡ (N ++ L) ++ (joined question-field (λ i. c) 1 ++ [])
   unfolding chartBytes question-field joined
@@ -227,17 +207,17 @@ module _ (c : Chart) (few-nodes : c .nodes .count ≤ 16) (few-links : c .links 
       subst (λ (l : List ℕ). Reaches (chartBytes c) (heldLinks c (c .links .count)) (length l))
       (sym (append-nil (N ++ L)) ∙ ap (λ (l : List ℕ). (N ++ L) ++ l) (sym (joined-none question-field (λ i. c))))
       (run-reaches 2 linkBody linkField (λ x. refl) (linkAt (c .links)) (c .links .count) (heldLinks c) linkNum N Q
-      (λ i h. link-number c i) (λ i h e. link-held c i (omega arith) e) (links-reached z) (c .links .count) (le-refl (c .links .count)) y)
+      (λ i h. link-number c i) (λ i h. link-held c i (omega arith)) (links-reached z) (c .links .count) (le-refl (c .links .count)) y)
 
-  one-number : (i : ℕ) → i < 1 → bodyTaken (heldAll c i) 3 (questionBody (c .from) (c .to)) .number ≡ questionNum i
+  one-number : (i : ℕ) → i < 1 → bodyNumber (refusing (heldAll c i)) 3 (questionBody (c .from) (c .to)) ≡ questionNum i
   unfolding heldAll
   one-number zero h = question-number c
   one-number (suc i) h = absurd (omega arith)
 
-  one-held : (i : ℕ) → i < 1 → questionNum i ≡ 0 → bodyTaken (heldAll c i) 3 (questionBody (c .from) (c .to)) .«so_far» ≡ heldAll c (i + 1)
+  one-held : (i : ℕ) → i < 1 → withBody (heldAll c i) 3 (questionBody (c .from) (c .to)) ≡ heldAll c (i + 1)
   unfolding heldAll
-  one-held zero h z = question-held c z
-  one-held (suc i) h z = absurd (omega arith)
+  one-held zero h = question-held c
+  one-held (suc i) h = absurd (omega arith)
 
   -- the three runs in order
   nodes-end : (firstNumber nodeNum (c .nodes .count) ≡ 0 → ⊥) → Ends (firstNumber nodeNum (c .nodes .count))
@@ -246,7 +226,7 @@ module _ (c : Chart) (few-nodes : c .nodes .count ≤ 16) (few-links : c .links 
       let b = first-bad nodeNum (c .nodes .count) h in
       refused-ends _ _ h
       (run-refused 1 nodeBody nodeField (λ x. refl) (nodeAt (c .nodes)) (c .nodes .count) (heldNodes (c .nodes)) nodeNum [] (L ++ Q)
-      (λ i l. node-number (c .nodes) i) (λ i l e. node-held (c .nodes) i (omega arith) e) nodes-reached b)
+      (λ i l. node-number (c .nodes) i) (λ i l. node-held (c .nodes) i (omega arith)) nodes-reached b)
 
   links-end : firstNumber nodeNum (c .nodes .count) ≡ 0 → (firstNumber linkNum (c .links .count) ≡ 0 → ⊥) → Ends (firstNumber linkNum (c .links .count))
   unfolding chartBytes linkField
@@ -254,7 +234,7 @@ module _ (c : Chart) (few-nodes : c .nodes .count ≤ 16) (few-links : c .links 
       let b = first-bad linkNum (c .links .count) h in
       refused-ends _ _ h
       (run-refused 2 linkBody linkField (λ x. refl) (linkAt (c .links)) (c .links .count) (heldLinks c) linkNum N Q
-      (λ i l. link-number c i) (λ i l e. link-held c i (omega arith) e) (links-reached z) b)
+      (λ i l. link-number c i) (λ i l. link-held c i (omega arith)) (links-reached z) b)
 
   question-end : firstNumber nodeNum (c .nodes .count) ≡ 0 → firstNumber linkNum (c .links .count) ≡ 0 → (k : ℕ) → questionNum 0 ≡ k → Ends k
   unfolding questionField question-field

@@ -2,18 +2,17 @@
 use Prim.Native.Nat.{ℕ, suc, zero, _+_, _-_, _*_, _<_, _≤_}
 use mathlib.Core.Path.{_≡_, refl, sym, ap, ap₂, subst, subst₂, _∙_}
 use mathlib.Core.List.{List, [], _∷_, _++_, append-assoc, append-nil}
-use mathlib.Core.Bool.{Bool, true, false, not, cond}
+use mathlib.Core.Bool.{Bool, true, false, cond}
 use native.Mathlib.Decide.{decLt}
 use native.Mathlib.Omega.{arith}
 use lib.ListN.{length, take, drop, getD, set, length-set, length-drop, length-append, drop-of-length-le}
 use lib.Seq.{take-all, getD-set-same, getD-set-other, getD-drop, length-take-le}
 use lib.Dec.{ltb, leb, eqb}
-use borrow.Author.Tests.{ltb-false, leb-true, leb-false, eqb-true, not-false}
+use borrow.Author.Tests.{ltb-false, leb-true, leb-false, eqb-true}
 use Rattle.lists.specs.Bytes.{Bytes}
 use Rattle.lists.specs.Places.{elementAt, firsts, row, joined}
 use Rattle.lists.proofs.Bools.{or-neither-of}
 use Rattle.lists.proofs.Places.{firsts-agree, row-at, joined-none}
-use Rattle.lists.proofs.Refusals.{pass}
 use Rattle.lists.proofs.Runs.{firsts-take, joined-set, joined-most}
 use Rattle.address.specs.declared.Station.{Station}
 use Rattle.address.specs.Wide.{stationIn}
@@ -23,16 +22,14 @@ use Rattle.chart.specs.declared.Chart.{Chart}
 use Rattle.chart.specs.Values.{noChart, noNode, noLink, nodeAt, linkAt}
 use Rattle.chart.specs.Numbers.{nodeNumber, linkNumber, questionNumber}
 use Rattle.chart.proofs.Laws.{node-passed, link-passed, question-passed}
-use Rattle.chart_read.specs.Held.{SoFar, Taken, Step}
 use Rattle.chart_read.specs.declared.ChartRead.{ChartRead}
-use Rattle.chart_read.specs.Fields.{tagged, tagAt, bodyAt, pastField, cutShort, bytesFrom, nodeIn, linkIn}
-use Rattle.chart_read.specs.Reading.{nothing, withNode, withLink, withQuestion, nodeLate, nodeBodyNumber, linkBodyNumber, questionBodyNumber, taking, bodyTaken, stepTo, stepOf, refusedAt, atEnd, onward, walk, chartReadOf}
-use Rattle.chart_read.proofs.Laws.{tag-first, tag-later}
+use Rattle.chart_read.specs.Fields.{tagged, tagAt, bodyAt, pastField, bytesFrom, nodeIn, linkIn}
+use Rattle.chart_read.specs.Reading.{SoFar, nothing, withNode, withLink, withQuestion, withBody, nodeLate, refusing, nodeBodyNumber, linkBodyNumber, questionBodyNumber, bodyNumber, fieldNumber, refusedAt, atEnd, onward, walk, chartReadOf}
+use Rattle.chart_read.proofs.Laws.{with-node, with-link, with-question, node-zero, link-zero, question-tag, question-zero, node-bounds, link-bounds, question-bounds, whole, body-zero}
 use Rattle.chart_read.proofs.Fields.{high-back, low-back, three-on, field-there, bytes-body}
-use Rattle.chart_read.proofs.Walking.{step-on, turn, walk-end}
+use Rattle.chart_read.proofs.Walking.{heldPast, turn, walk-end}
 use Rattle.chart_write.specs.Writing.{nodeBody, onByte, linkBody, questionBody, nodeField, linkField, questionField, chartBytes}
 use Rattle.chart_write.proofs.Laws.{length-node, length-links, length-question}
-use Rattle.chart_write.proofs.ReadBack.{held-of}
 
 -- ---- the bodies: what a body says, written, is the body
 
@@ -184,73 +181,36 @@ question-grown s from to k z =
 grown-as : (s : SoFar) {a b : SoFar} {f g : List ℕ} → a ≡ b → f ≡ g → Grown s b g → Grown s a f
 grown-as s e p r = subst₂ (λ (x : SoFar) (y : List ℕ). Grown s x y) (sym e) (sym p) r
 
-node-tests : (s : SoFar) (b : List ℕ) → nodeBodyNumber s b ≡ 0 → (3 ≤ length b) × (nodeNumber (nodeLate s) (s .chart .nodes) (nodeIn b) ≡ 0)
-unfolding nodeBodyNumber
-node-tests s b h =
-    let p = pass 22 (ltb (length b) 3) _ h in
-    (ltb-false (length b) 3 (p .0), pass 22 (ltb 27 (length b)) _ (p .1) .1)
-
-node-step : (s : SoFar) (b : List ℕ) → Kept s → Bytes b → nodeBodyNumber s b ≡ 0 → Grown s (taking (nodeBodyNumber s b) (withNode s (nodeIn b)) .«so_far») (tagged 1 b)
-unfolding nodeField
+node-step : (s : SoFar) (b : List ℕ) → Kept s → Bytes b → nodeBodyNumber (refusing s .node) b ≡ 0 → Grown s (withNode s (nodeIn b)) (tagged 1 b)
+unfolding nodeField refusing
 node-step s b k m z =
-    let p = node-tests s b z in
-    grown-as s (held-of (nodeBodyNumber s b) (withNode s (nodeIn b)) z) (sym (ap (tagged 1) (node-body-back b m (p .0)))) (node-grown s (nodeIn b) k (p .1))
+    let p = node-bounds (refusing s .node) b z in
+    grown-as s refl (sym (ap (tagged 1) (node-body-back b m (p .0)))) (node-grown s (nodeIn b) k (p .2))
 
-link-tests : (s : SoFar) (b : List ℕ) → linkBodyNumber s b ≡ 0 → (length b ≡ 9) × (getD b 8 0 ≤ 1) × (linkNumber (s .asked) (s .chart .nodes) (s .chart .links) (linkIn b) ≡ 0)
-unfolding linkBodyNumber
-link-tests s b h =
-    let p = pass 22 (not (eqb (length b) 9)) _ h in
-    let q = pass 23 (ltb 1 (getD b 8 0)) _ (p .1) in
-    (eqb-true (length b) 9 (not-false (eqb (length b) 9) (p .0)), ltb-false 1 (getD b 8 0) (q .0), q .1)
-
-link-step : (s : SoFar) (b : List ℕ) → Kept s → Bytes b → linkBodyNumber s b ≡ 0 → Grown s (taking (linkBodyNumber s b) (withLink s (linkIn b)) .«so_far») (tagged 2 b)
-unfolding linkField
+link-step : (s : SoFar) (b : List ℕ) → Kept s → Bytes b → linkBodyNumber (refusing s .link) b ≡ 0 → Grown s (withLink s (linkIn b)) (tagged 2 b)
+unfolding linkField refusing
 link-step s b k m z =
-    let p = link-tests s b z in
-    grown-as s (held-of (linkBodyNumber s b) (withLink s (linkIn b)) z) (sym (ap (tagged 2) (link-body-back b m (p .0) (p .1)))) (link-grown s (linkIn b) k (p .2))
+    let p = link-bounds (refusing s .link) b z in
+    grown-as s refl (sym (ap (tagged 2) (link-body-back b m (p .0) (p .1)))) (link-grown s (linkIn b) k (p .2))
 
-question-tests : (s : SoFar) (b : List ℕ) → questionBodyNumber s b ≡ 0 → (length b ≡ 6) × (questionNumber (s .asked) (s .chart .nodes) (stationIn b 0) (stationIn b 3) ≡ 0)
-unfolding questionBodyNumber
-question-tests s b h =
-    let p = pass 22 (not (eqb (length b) 6)) _ h in
-    (eqb-true (length b) 6 (not-false (eqb (length b) 6) (p .0)), p .1)
-
-question-step : (s : SoFar) (b : List ℕ) → Kept s → Bytes b → questionBodyNumber s b ≡ 0
-    → Grown s (taking (questionBodyNumber s b) (withQuestion s (stationIn b 0) (stationIn b 3)) .«so_far») (tagged 3 b)
-unfolding questionField
+question-step : (s : SoFar) (b : List ℕ) → Kept s → Bytes b → questionBodyNumber (refusing s .question) b ≡ 0
+    → Grown s (withQuestion s (stationIn b 0) (stationIn b 3)) (tagged 3 b)
+unfolding questionField refusing
 question-step s b k m z =
-    let p = question-tests s b z in
-    grown-as s (held-of (questionBodyNumber s b) (withQuestion s (stationIn b 0) (stationIn b 3)) z) (sym (ap (tagged 3) (question-body-back b m (p .0)))) (question-grown s (stationIn b 0) (stationIn b 3) k (p .1))
+    let p = question-bounds (refusing s .question) b z in
+    grown-as s refl (sym (ap (tagged 3) (question-body-back b m (p .0)))) (question-grown s (stationIn b 0) (stationIn b 3) k (p .1))
 
-body-step : (s : SoFar) (tag : ℕ) (b : List ℕ) → Kept s → Bytes b → bodyTaken s tag b .number ≡ 0 → Grown s (bodyTaken s tag b .«so_far») (tagged tag b)
-unfolding bodyTaken
-body-step s tag b k m h = by (eqb tag 1) (eqb tag 2) (eqb tag 3) refl refl refl h
+body-step : (s : SoFar) (tag : ℕ) (b : List ℕ) → Kept s → Bytes b → bodyNumber (refusing s) tag b ≡ 0 → Grown s (withBody s tag b) (tagged tag b)
+body-step s tag b k m z = by (eqb tag 1) (eqb tag 2) refl refl
   where
-    A : Taken
-    A = taking (nodeBodyNumber s b) (withNode s (nodeIn b))
-
-    B : Taken
-    B = taking (linkBodyNumber s b) (withLink s (linkIn b))
-
-    C : Taken
-    C = taking (questionBodyNumber s b) (withQuestion s (stationIn b 0) (stationIn b 3))
-
-    D : Taken
-    D = taking 22 nothing
-
-    number-of : (j : ℕ) (t : SoFar) → taking j t .number ≡ 0 → j ≡ 0
-    number-of j t e = unfold taking in e
-
-    by : (x y z : Bool) → eqb tag 1 ≡ x → eqb tag 2 ≡ y → eqb tag 3 ≡ z
-        → cond {A = Taken} x A (cond y B (cond z C D)) .number ≡ 0
-        → Grown s (cond {A = Taken} (eqb tag 1) A (cond (eqb tag 2) B (cond (eqb tag 3) C D)) .«so_far») (tagged tag b)
-    by true y z e f g h =
-        grown-as s (ap (λ (a : Taken). a .«so_far») (sym (tag-first A _ e))) (ap (λ (t : ℕ). tagged t b) (eqb-true tag 1 e)) (node-step s b k m (number-of _ _ h))
-    by false true z e f g h =
-        grown-as s (ap (λ (a : Taken). a .«so_far») (sym (tag-later A e (tag-first B _ f)))) (ap (λ (t : ℕ). tagged t b) (eqb-true tag 2 f)) (link-step s b k m (number-of _ _ h))
-    by false false true e f g h =
-        grown-as s (ap (λ (a : Taken). a .«so_far») (sym (tag-later A e (tag-later B f (tag-first C _ g))))) (ap (λ (t : ℕ). tagged t b) (eqb-true tag 3 g)) (question-step s b k m (number-of _ _ h))
-    by false false false e f g h = absurd (let w : _≡_ {A = ℕ} 22 0 = number-of 22 nothing h in omega arith)
+    by : (x y : Bool) → eqb tag 1 ≡ x → eqb tag 2 ≡ y → Grown s (withBody s tag b) (tagged tag b)
+    by true y e f =
+        grown-as s (with-node s tag b e) (ap (λ (t : ℕ). tagged t b) (eqb-true tag 1 e)) (node-step s b k m (node-zero (refusing s) tag b z e))
+    by false true e f =
+        grown-as s (with-link s tag b e f) (ap (λ (t : ℕ). tagged t b) (eqb-true tag 2 f)) (link-step s b k m (link-zero (refusing s) tag b z e f))
+    by false false e f =
+        grown-as s (with-question s tag b e f) (ap (λ (t : ℕ). tagged t b) (eqb-true tag 3 (question-tag (refusing s) tag b z e f)))
+        (question-step s b k m (question-zero (refusing s) tag b z e f))
 
 -- ---- the walk: what was passed is what is held
 
@@ -296,33 +256,15 @@ module _ (bytes : List ℕ) (small : Bytes bytes) where
   place-small : (s : SoFar) (at : ℕ) → Holds s at → at ≤ 1065
   place-small s at H = omega (arith, held-small s (H .kept), ap length (H .passed), length-take-le at bytes (H .within))
 
-  whole-step : (s : SoFar) (at : ℕ) → stepOf s bytes at .number ≡ 0
-      → (cutShort bytes at ≡ false) × (stepOf s bytes at ≡ stepTo (pastField bytes at) (bodyTaken s (tagAt bytes at) (bodyAt bytes at)))
-  unfolding stepOf taking
-  whole-step s at h = by (cutShort bytes at) refl h
-    where
-      good : Step
-      good = stepTo (pastField bytes at) (bodyTaken s (tagAt bytes at) (bodyAt bytes at))
-
-      bad : Step
-      bad = stepTo (length bytes) (taking 21 nothing)
-
-      by : (b : Bool) → cutShort bytes at ≡ b → cond {A = Step} b bad good .number ≡ 0 → (cutShort bytes at ≡ false) × (cond (cutShort bytes at) bad good ≡ good)
-      by true e h = absurd (omega arith)
-      by false e h = (e, sym (tag-later bad e refl))
-
-  holds-next : (s : SoFar) (at : ℕ) → Holds s at → stepOf s bytes at .number ≡ 0 → Holds (stepOf s bytes at .«so_far») (stepOf s bytes at .next)
+  holds-next : (s : SoFar) (at : ℕ) → Holds s at → fieldNumber (refusing s) bytes at ≡ 0 → Holds (heldPast s bytes at) (pastField bytes at)
   holds-next s at H z =
-      let w = whole-step s at z in
-      let t = bodyTaken s (tagAt bytes at) (bodyAt bytes at) in
-      let l : pastField bytes at ≤ length bytes = ltb-false (length bytes) (pastField bytes at) (w .0) in
-      let g = body-step s (tagAt bytes at) (bodyAt bytes at) (H .kept) (bytes-body bytes small at) (ap (λ (x : Step). x .number) (sym (w .1)) ∙ z) in
-      subst (λ (st : Step). Holds (st .«so_far») (st .next)) (sym (w .1))
-      (record {
+      let l = whole (refusing s) bytes at z in
+      let g = body-step s (tagAt bytes at) (bodyAt bytes at) (H .kept) (bytes-body bytes small at) (body-zero (refusing s) bytes at z) in
+      record {
         passed = g .0 ∙ ap (λ (x : List ℕ). x ++ tagged (tagAt bytes at) (bodyAt bytes at)) (H .passed) ∙ sym (field-there bytes small at l);
         within = l;
         kept = g .1;
-      })
+      }
 
   end-good : (s : SoFar) (at : ℕ) → Holds s at → length bytes ≤ at → Good (atEnd s (length bytes))
   end-good s at H h = by (s .asked) refl
@@ -340,9 +282,8 @@ module _ (bytes : List ℕ) (small : Bytes bytes) where
       Onward : Type 0
       Onward = (t : SoFar) (a : ℕ) → Holds t a → length bytes ≤ a + k → Good (walk k t bytes a)
 
-      on : Onward → at < length bytes → (n : ℕ) → stepOf s bytes at .number ≡ n
-          → Good (onward n at (λ u. walk k (stepOf s bytes at .«so_far») bytes (stepOf s bytes at .next)))
-      on go l zero e = go (stepOf s bytes at .«so_far») (stepOf s bytes at .next) (holds-next s at H e) (omega (arith, step-on s bytes at l))
+      on : Onward → at < length bytes → (n : ℕ) → fieldNumber (refusing s) bytes at ≡ n → Good (onward n at (λ u. walk k (heldPast s bytes at) bytes (pastField bytes at)))
+      on go l zero e = go (heldPast s bytes at) (pastField bytes at) (holds-next s at H e) (omega arith)
       on go l (suc n) e = record { undone = λ z. absurd (omega arith); near = place-small s at H }
 
       by : Onward → (b : Bool) → leb (length bytes) at ≡ b → Good (walk (suc k) s bytes at)
@@ -351,7 +292,7 @@ module _ (bytes : List ℕ) (small : Bytes bytes) where
           subst Good (sym (walk-end (suc k) s bytes at g)) (end-good s at H g)
       by go false e =
           let l : at < length bytes = leb-false (length bytes) at e in
-          subst Good (sym (turn k s bytes at l)) (on go l (stepOf s bytes at .number) refl)
+          subst Good (sym (turn k s bytes at l)) (on go l (fieldNumber (refusing s) bytes at) refl)
 
   -- an accepted chart is written as the bytes that it was read from; a refusal's place is small
   pub read-good : Good (chartReadOf bytes)

@@ -1,7 +1,7 @@
 -- Link places, nodes met, and the equation of the list of all routes without a bound on its links: what all other laws rest on.
 use mathlib.Core.Path.{_≡_, refl, sym, _∙_, ap, ap₂}
 use mathlib.Core.Logic.{_⊎_, inl, inr, _↔_}
-use mathlib.Core.Bool.{Bool, true, false}
+use mathlib.Core.Bool.{Bool, true, false, cond}
 use mathlib.Core.Option.{Option, none, some}
 use mathlib.Core.List.{List, [], _∷_, _++_, map, append-assoc, List·Memᴰ, List·Memᴰ·head, List·Memᴰ·tail, List·Memᴰ·cases-cons, List·Memᴰ·not-nil, List·Memᴰ·append-cases, List·Memᴰ·eq-of-singleton, Memᴰ·append-left, Memᴰ·append-right, Memᴰ·map, Memᴰ·of-map, Memᴰ·cast}
 use Prim.Native.Nat.{ℕ, zero, suc, _+_, _-_, _<_, _≤_}
@@ -12,7 +12,7 @@ use lib.ListN.{length}
 use borrow.Author.Tests.{eqb-true, eqb-false, eq-eqb, ne-eqb}
 use Rattle.routes.proofs.Tests.{either}
 use Rattle.routes.specs.Route.{Net, Sound, also, only, IsRoute, arrived, passed}
-use Rattle.routes.specs.All.{upFrom, linksFrom, via, over, tries, routes, tally, unmet, allFrom}
+use Rattle.routes.specs.All.{upFrom, linksFrom, over, tries, routes, unmet, allFrom}
 
 -- ---- link places
 
@@ -84,19 +84,22 @@ pub also-other : (f : ℕ) (met : ℕ → Bool) (n : ℕ) → ¬ (n ≡ f) → a
 unfolding also
 also-other f met n h = rw (ne-eqb n f h)
 
+-- one more, unless the node is met
+abbrev tally : Bool → ℕ → ℕ
+tally b k = cond b k (suc k)
+
 unmet-same : (n : ℕ) (met met′ : ℕ → Bool) → ((j : ℕ) → j < n → met j ≡ met′ j) → unmet n met ≡ unmet n met′
 unfolding unmet
 unmet-same zero met met′ h = refl
 unmet-same (suc n) met met′ h = ap₂ tally (h n (omega arith)) (unmet-same n met met′ (λ j l. h j (omega arith)))
 
 tally-suc : (b : Bool) (k k′ : ℕ) → k ≡ suc k′ → tally b k ≡ suc (tally b k′)
-unfolding tally
 tally-suc true k k′ e = e
 tally-suc false k k′ e = ap suc e
 
 -- a node more is met: one fewer is unmet
 pub unmet-also : (n : ℕ) (met : ℕ → Bool) (f : ℕ) → f < n → met f ≡ false → unmet n met ≡ suc (unmet n (also f met))
-unfolding unmet tally
+unfolding unmet
 unmet-also zero met f h e = absurd (omega arith)
 unmet-also (suc n) met f h e = go (λ l. unmet-also n met f l e) (either (eqb f n))
   where
@@ -114,7 +117,7 @@ unmet-also (suc n) met f h e = go (λ l. unmet-also n met f l e) (either (eqb f 
         rw a (tally-suc (met n) (unmet n met) (unmet n (also f met)) (below (omega arith)))
 
 unmet-start : (n : ℕ) → unmet n (λ _. false) ≡ n
-unfolding unmet tally
+unfolding unmet
 unmet-start zero = refl
 unmet-start (suc n) = ap suc (unmet-start n)
 
@@ -125,9 +128,12 @@ unmet-only n a h = sym (unmet-also n (λ _. false) a h refl) ∙ unmet-start n
 
 -- ---- the routes that begin with some links
 
+-- link i before each route on from its far end f, unless f is met
+abbrev pub via : (ℕ → List (List ℕ)) → ℕ → ℕ → Bool → List (List ℕ)
+via next i f b = cond b [] (map (λ r. i ∷ r) (next f))
+
 module _ (G : Net) (next next′ : ℕ → List (List ℕ)) (at : ℕ) (met : ℕ → Bool) where
   pub via-same : (i f : ℕ) (b : Bool) → (b ≡ false → next f ≡ next′ f) → via next i f b ≡ via next′ i f b
-  unfolding via
   via-same i f true h = refl
   via-same i f false h = ap (λ l. map (λ r. i ∷ r) l) (h refl)
 
@@ -144,7 +150,6 @@ module _ (G : Net) (next next′ : ℕ → List (List ℕ)) (at : ℕ) (met : �
 
 module _ (G : Net) (at : ℕ) (met : ℕ → Bool) where
   via-nil : (i f : ℕ) (b : Bool) → via (λ _. []) i f b ≡ []
-  unfolding via
   via-nil i f true = refl
   via-nil i f false = refl
 
@@ -159,22 +164,18 @@ module _ (G : Net) (at : ℕ) (met : ℕ → Bool) where
   tries-nil (i ∷ ls) = rw (over-nil i (G .far i at), tries-nil ls)
 
 module _ (G : Net) (next : ℕ → List (List ℕ)) (at : ℕ) (met : ℕ → Bool) where
-  -- the laws that follow the code: no link left, a link that can't be passed, one to a node met, one that is passed
-  pub tries-end : tries G next at met [] ≡ []
-  unfolding tries
-  tries-end = refl
-
+  -- the laws that follow the code: a link that can't be passed, one to a node met, one that is passed
   pub tries-cut : (i : ℕ) (ls : List ℕ) → G .far i at ≡ none → tries G next at met (i ∷ ls) ≡ tries G next at met ls
   unfolding tries over
   tries-cut i ls e = rw e
 
   pub tries-met : (i : ℕ) (ls : List ℕ) (f : ℕ) → G .far i at ≡ some f → met f ≡ true → tries G next at met (i ∷ ls) ≡ tries G next at met ls
-  unfolding tries over via
+  unfolding tries over
   tries-met i ls f e m = rw (e, m)
 
   pub tries-over : (i : ℕ) (ls : List ℕ) (f : ℕ) → G .far i at ≡ some f → met f ≡ false
       → tries G next at met (i ∷ ls) ≡ map (λ r. i ∷ r) (next f) ++ tries G next at met ls
-  unfolding tries over via
+  unfolding tries over
   tries-over i ls f e m = rw (e, m)
 
   pub tries-append : (a b : List ℕ) → tries G next at met (a ++ b) ≡ tries G next at met a ++ tries G next at met b
@@ -197,7 +198,6 @@ module _ (G : Net) (next : ℕ → List (List ℕ)) (at : ℕ) (met : ℕ → Bo
   more i ls r b = record { link = b .link; to = b .to; rest = b .rest; is = b .is; among = List·Memᴰ·tail (b .among); far = b .far; unmet = b .unmet; on = b .on }
 
   begun-via : (i f : ℕ) (ls r : List ℕ) → G .far i at ≡ some f → (b : Bool) → met f ≡ b → List·Memᴰ r (via next i f b) → Begun (i ∷ ls) r
-  unfolding via
   begun-via i f ls r e true m h = absurd (List·Memᴰ·not-nil h)
   begun-via i f ls r e false m h =
       let o = Memᴰ·of-map (λ r. i ∷ r) (next f) h in
@@ -220,7 +220,7 @@ module _ (G : Net) (next : ℕ → List (List ℕ)) (at : ℕ) (met : ℕ → Bo
 
   pub tries-mem : (ls : List ℕ) (i f : ℕ) (r : List ℕ) → List·Memᴰ i ls → G .far i at ≡ some f → met f ≡ false → List·Memᴰ r (next f)
       → List·Memᴰ (i ∷ r) (tries G next at met ls)
-  unfolding tries over via
+  unfolding tries over
   tries-mem [] i f r h e m n = absurd (List·Memᴰ·not-nil h)
   tries-mem (j ∷ ls) i f r h e m n = go (λ h′. tries-mem ls i f r h′ e m n) (List·Memᴰ·cases-cons h)
     where

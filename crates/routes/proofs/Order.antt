@@ -9,9 +9,9 @@ use native.Mathlib.Omega.{arith}
 use lib.Dec.{eqb}
 use borrow.Author.Tests.{eqb-true, eqb-false}
 use Rattle.routes.proofs.Tests.{either}
-use Rattle.routes.proofs.Laws.{mem-upFrom, begun, routes-here, routes-none, routes-on}
+use Rattle.routes.proofs.Laws.{via, mem-upFrom, begun, routes-here, routes-none, routes-on}
 use Rattle.routes.specs.Route.{Net, also, Before, smaller, alike, Increasing, NoneTwice}
-use Rattle.routes.specs.All.{upFrom, linksFrom, via, over, tries, routes, unmet, allFrom}
+use Rattle.routes.specs.All.{upFrom, linksFrom, over, tries, routes, unmet, allFrom}
 
 pub before-distinct : {r s : List ℕ} → Before r s → r ≡ s → ⊥
 before-distinct (smaller l) e = let h = head-eq-of-cons-eq e in omega arith
@@ -44,7 +44,6 @@ inc-map i (r ∷ l) h =
 
 module _ (G : Net) (next : ℕ → List (List ℕ)) (ordered : (f : ℕ) → Increasing (next f)) (at : ℕ) (met : ℕ → Bool) where
   inc-via : (i f : ℕ) (b : Bool) → Increasing (via next i f b)
-  unfolding via
   inc-via i f true = tt
   inc-via i f false = inc-map i (next f) (ordered f)
 
@@ -54,7 +53,6 @@ module _ (G : Net) (next : ℕ → List (List ℕ)) (ordered : (f : ℕ) → Inc
   inc-over i (some f) = inc-via i f (met f)
 
   via-head : (i f : ℕ) (b : Bool) (r : List ℕ) → List·Memᴰ r (via next i f b) → (s : List ℕ) × (r ≡ i ∷ s)
-  unfolding via
   via-head i f true r m = absurd (List·Memᴰ·not-nil m)
   via-head i f false r m = let o = Memᴰ·of-map (λ r. i ∷ r) (next f) m in (o .0, sym (o .2))
 

@@ -1,5 +1,5 @@
 -- All routes in a list that can be computed, and the first and the next in it.
-use mathlib.Core.Bool.{Bool, true, false, _&&_}
+use mathlib.Core.Bool.{Bool, true, false, cond, _&&_}
 use mathlib.Core.Option.{Option, none, some}
 use mathlib.Core.List.{List, [], _∷_, _++_, map}
 use Prim.Native.Nat.{ℕ, zero, suc, _-_}
@@ -15,15 +15,10 @@ upFrom j (suc n) = j ∷ upFrom (suc j) n
 unfoldable pub linksFrom : Net → ℕ → List ℕ
 linksFrom G i = upFrom i (G .links - i)
 
--- link i before each route on from its far end f, unless f is met
-unfoldable pub via : (ℕ → List (List ℕ)) → ℕ → ℕ → Bool → List (List ℕ)
-via next i f true = []
-via next i f false = map (λ r. i ∷ r) (next f)
-
--- the routes that begin with link i, whose far end is given; `next f` are those on from f
+-- the routes that begin with link i, whose far end is given: none where it is met; `next f` are those on from f
 unfoldable pub over : (ℕ → List (List ℕ)) → (ℕ → Bool) → ℕ → Option ℕ → List (List ℕ)
 over next met i none = []
-over next met i (some f) = via next i f (met f)
+over next met i (some f) = cond (met f) [] (map (λ r. i ∷ r) (next f))
 
 -- the routes from a node that begin with one of these links, the links' order first
 unfoldable pub tries : Net → (ℕ → List (List ℕ)) → ℕ → (ℕ → Bool) → List ℕ → List (List ℕ)
@@ -36,15 +31,10 @@ routes G zero at met = elim (eqb at (G .goal)) [ true ↦ [] ∷ [] | false ↦ 
 routes G (suc k) at met =
     elim (eqb at (G .goal)) [ true ↦ [] ∷ [] | false ↦ tries G (λ f. routes G k f (also f met)) at met (linksFrom G 0) ]
 
--- one more, unless the node is met
-unfoldable pub tally : Bool → ℕ → ℕ
-tally true k = k
-tally false k = suc k
-
 -- how many of the nodes below n are not met
 unfoldable pub unmet : ℕ → (ℕ → Bool) → ℕ
 unmet zero met = 0
-unmet (suc n) met = tally (met n) (unmet n met)
+unmet (suc n) met = cond (met n) (unmet n met) (suc (unmet n met))
 
 -- all routes on from a node: each link comes to a node that was not met, so that there are no more links than such nodes
 unfoldable pub allFrom : Net → ℕ → (ℕ → Bool) → List (List ℕ)

@@ -23,12 +23,6 @@ no-link-requires c κs = search needs
 loop-holds : tie.Need-loop-holds Inv-loop μ-loop
 loop-holds c = (omega arith, rw (c .no-link .ensures) (sym (row-none 48 noLink (linkHeld (c .before .before .args .b .now)))))
 
-mul-link-held : tie.Need-mul-link-held Inv-loop μ-loop
-mul-link-held c = search needs
-
-add-link-held : tie.Need-add-link-held Inv-loop μ-loop
-add-link-held c = search needs
-
 link-held-requires : tie.Need-link-held-requires Inv-loop μ-loop
 link-held-requires c κs = search needs
 
@@ -45,7 +39,6 @@ loop-less : tie.Need-loop-less Inv-loop μ-loop
 loop-less c = search needs
 
 loop-again : tie.Need-loop-again Inv-loop μ-loop
-unfolding linkHeld
 loop-again c =
     let l = c .before .before .loop in
     (omega arith, rw (c .link-held .ensures, l .inv .1) (row-next 48 noLink (linkHeld (c .before .before .before .before .before .args .b .now)) (l .i) (omega arith)))
@@ -64,8 +57,6 @@ links-held-spec =
     μ-loop
     no-link-requires
     loop-holds
-    mul-link-held
-    add-link-held
     link-held-requires
     mul-items
     array-set-from-items

@@ -17,8 +17,11 @@ Inv-loop b n items₀ i₀ items i =
 abbrev μ-loop : tie.MeasureT-loop
 μ-loop b n items₀ i₀ items i = n - i
 
+no-node-requires : tie.Need-no-node-requires Inv-loop μ-loop
+no-node-requires c κs = search needs
+
 loop-holds : tie.Need-loop-holds Inv-loop μ-loop
-loop-holds c = (omega arith, sym (row-none 16 noNode (nodeHeld (c .before .args .b .now))))
+loop-holds c = (omega arith, rw (c .no-node .ensures) (sym (row-none 16 noNode (nodeHeld (c .before .before .args .b .now)))))
 
 node-held-requires : tie.Need-node-held-requires Inv-loop μ-loop
 node-held-requires c κs = search needs
@@ -38,12 +41,12 @@ loop-less c = search needs
 loop-again : tie.Need-loop-again Inv-loop μ-loop
 loop-again c =
     let l = c .before .before .loop in
-    (omega arith, rw (c .node-held .ensures, l .inv .1) (row-next 16 noNode (nodeHeld (c .before .before .before .before .args .b .now)) (l .i) (omega arith)))
+    (omega arith, rw (c .node-held .ensures, l .inv .1) (row-next 16 noNode (nodeHeld (c .before .before .before .before .before .args .b .now)) (l .i) (omega arith)))
 
 returns : tie.Need-returns Inv-loop μ-loop
 returns c =
     let l = c .before .loop in
-    let e : l .i ≡ c .before .before .before .args .n = omega arith in
+    let e : l .i ≡ c .before .before .before .before .args .n = omega arith in
     rw (l .inv .1, e)
 
 pub nodes-held-spec : {M : Type 1} → statement M
@@ -52,6 +55,7 @@ nodes-held-spec =
     (tie.spec
     Inv-loop
     μ-loop
+    no-node-requires
     loop-holds
     node-held-requires
     mul-items

@@ -1,19 +1,19 @@
--- `chart_keys::keys::station_keys` meets its contract. The loop's invariant: the keys before i stand in the row.
+-- `chart_keys::keys::station_keys` meets its contract. The loop's invariant: the keys before i are there.
 use Prim.Native.Nat.{ℕ, _≤_, _<_, _-_}
-use mathlib.Core.Path.{_≡_, sym, ap, _∙_}
+use mathlib.Core.Path.{_≡_, refl, subst, _∙_}
 use native.Mathlib.Omega.{arith}
-use lib.ListN.{length, length-map}
+use lib.ListN.{length, length-map, getD, length-set}
 use borrow.Author.Needs.{needs}
-use Rattle.lists.specs.Places.{row}
-use Rattle.lists.proofs.Places.{row-none}
+use Rattle.chart.specs.declared.ChartNode.{ChartNode}
 use Rattle.chart.specs.Values.{nodeAt}
-use Rattle.chart_keys.specs.Keys.{nodeKeyAt}
-use Rattle.chart_keys.proofs.ByKeys.{keys-next, fits-next}
+use Rattle.chart.proofs.Laws.{node-read}
+use Rattle.chart_keys.specs.Keys.{StationKeyed}
+use Rattle.chart_keys.proofs.ByKeys.{keyed-more}
 use Rattle.chart_keys.proofs.keys.station_keys.Statement.{statement}
 use Rattle.chart_keys.proofs.keys.station_keys.Tie as tie
 
 abbrev Inv-loop : tie.InvT-loop
-Inv-loop nodes keys₀ i₀ keys i = (i ≤ 16) × (keys ≡ row 16 0 (nodeKeyAt nodes) i) × ((j : ℕ) → j < i → nodeAt nodes j .station .node .0 ≤ 65535)
+Inv-loop nodes keys₀ i₀ keys i = (i ≤ 16) × (length keys ≡ 16) × ((j : ℕ) → j < i → StationKeyed (nodeAt nodes j .station) (getD keys j 0))
 
 abbrev μ-loop : tie.MeasureT-loop
 μ-loop nodes keys₀ i₀ keys i = 16 - i
@@ -23,7 +23,7 @@ whole : (s : tie.Start Inv-loop μ-loop) → length (s .args .t1 .items) ≡ 16
 whole s = simp length-map at (s .good .0 .1 .1 .1 .0 .1 .0 .1)
 
 loop-holds : tie.Need-loop-holds Inv-loop μ-loop
-loop-holds c = (omega arith, sym (row-none 16 0 _), λ j l. absurd (omega arith))
+loop-holds c = (omega arith, refl, λ j l. absurd (omega arith))
 
 mul-node : tie.Need-mul-node Inv-loop μ-loop
 mul-node c = search needs
@@ -50,18 +50,18 @@ loop-again : tie.Need-loop-again Inv-loop μ-loop
 loop-again c =
     let s = c .before .before .before .before in
     let l = c .before .before .before .loop in
-    let f : l .i < 16 = c .before .before .loop-test .taken in
-    let g : l .i < length (s .args .t1 .items) = omega (arith, whole s) in (
+    let nodes = s .args .t1 in
+    let g : l .i < length (nodes .items) = omega (arith, whole s) in
+    let e : StationKeyed (nodeAt nodes (l .i) .station) (c .station-key .result) = subst (λ (n : ChartNode). StationKeyed (n .station) (c .station-key .result)) (node-read nodes _ (l .i) g) (c .station-key .ensures) in (
       omega arith,
-      keys-next (s .args .t1) (l .keys) _ (l .i) (c .station-key .result) f g (l .inv .1) (c .station-key .ensures),
-      fits-next (s .args .t1) _ (l .i) g (l .inv .2) (c .station-key .ensures),
+      length-set (l .keys) (l .i) (c .station-key .result) ∙ l .inv .1,
+      keyed-more (λ (j k : ℕ). StationKeyed (nodeAt nodes j .station) k) (l .keys) (l .i) (c .station-key .result) (omega (arith, l .inv .1)) e (l .inv .2),
     )
 
 returns : tie.Need-returns Inv-loop μ-loop
 returns c =
     let l = c .before .loop in
-    let e : l .i ≡ 16 = omega arith in
-    record { row = l .inv .1 ∙ ap (row 16 0 (nodeKeyAt (c .before .before .args .t1))) e; fits = λ j h. l .inv .2 j (omega arith) }
+    record { long = l .inv .1; keyed = λ j h. l .inv .2 j (omega arith) }
 
 pub station-keys-spec : {M : Type 1} → statement M
 station-keys-spec =

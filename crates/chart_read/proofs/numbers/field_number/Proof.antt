@@ -1,6 +1,7 @@
 -- `chart_read::numbers::field_number` meets its contract: a field that is cut short is 21, else its body decides.
 use native.Mathlib.Omega.{arith}
-use Rattle.chart_read.proofs.Laws.{field-cut, field-whole}
+use Rattle.chart_read.specs.ByKeys.{refusingBy}
+use Rattle.chart_read.proofs.Laws.{field-cut, field-made}
 use borrow.Author.Needs.{needs}
 use Rattle.chart_read.proofs.numbers.field_number.Statement.{statement}
 use Rattle.chart_read.proofs.numbers.field_number.Tie as tie
@@ -14,7 +15,7 @@ sub-if1 c = search needs
 returns : tie.Need-returns
 returns c =
     let s = c .before .before .before in
-    field-cut (s .args .asked) (s .args .keys .now) (s .args .n) (s .args .near .now) (s .args .far .now) (s .args .m) (s .args .bytes .now) (s .args .at) (omega arith)
+    field-cut (refusingBy (s .args .asked) (s .args .keys .now) (s .args .n) (s .args .near .now) (s .args .far .now) (s .args .m)) (s .args .bytes .now) (s .args .at) (omega arith)
 
 add-word-at : tie.Need-add-word-at
 add-word-at c = search needs
@@ -34,7 +35,7 @@ sub-if2 c = search needs
 returns-2 : tie.Need-returns-2
 returns-2 c =
     let s = c .before .before .before .before .before in
-    field-cut (s .args .asked) (s .args .keys .now) (s .args .n) (s .args .near .now) (s .args .far .now) (s .args .m) (s .args .bytes .now) (s .args .at) (omega (arith, c .before .word-at .ensures))
+    field-cut (refusingBy (s .args .asked) (s .args .keys .now) (s .args .n) (s .args .near .now) (s .args .far .now) (s .args .m)) (s .args .bytes .now) (s .args .at) (omega (arith, c .before .word-at .ensures))
 
 add-next : tie.Need-add-next
 add-next c = search needs
@@ -54,7 +55,7 @@ body-number-requires c κs = search needs
 returns-3 : tie.Need-returns-3
 returns-3 c =
     let s = c .before .before .before .before .before .before .before in
-    field-whole (s .args .asked) (s .args .keys .now) (s .args .n) (s .args .near .now) (s .args .far .now) (s .args .m) (s .args .bytes .now) (s .args .at) _ _ (c .before .before .before .word-at .ensures) (omega arith) (c .body-number .ensures)
+    field-made (refusingBy (s .args .asked) (s .args .keys .now) (s .args .n) (s .args .near .now) (s .args .far .now) (s .args .m)) (s .args .bytes .now) (s .args .at) _ _ (c .before .before .before .word-at .ensures) (omega arith) (c .body-number .ensures)
 
 pub field-number-spec : {M : Type 1} → statement M
 field-number-spec =

@@ -3,23 +3,21 @@ use mathlib.Core.Path.{ap, _∙_}
 use mathlib.Core.Bool.{not}
 use borrow.Author.Tests.{lt-ltb, le-ltb, eq-eqb, ne-eqb}
 use Rattle.lists.proofs.Chains.{stops, passes}
-use Rattle.address.specs.Address.{stationOf}
-use Rattle.chart.specs.declared.Link.{Link}
-use Rattle.chart_keys.specs.Keys.{bothKnown, eitherBy, linkBy}
-use Rattle.chart_read.specs.ByKeys.{linkBodyBy}
+use Rattle.chart_keys.specs.Keys.{linkByKeys}
+use Rattle.chart_read.specs.Reading.{linkBodyNumber}
 use borrow.Author.Needs.{needs}
 use Rattle.chart_read.proofs.numbers.link_body_number.Statement.{statement}
 use Rattle.chart_read.proofs.numbers.link_body_number.Tie as tie
 
 returns : tie.Need-returns
-unfolding linkBodyBy
+unfolding linkBodyNumber
 returns c = stops 23 _ (ap not (ne-eqb _ _ (c .if1 .taken)))
 
 shared-slice-read-if2 : tie.Need-shared-slice-read-if2
 shared-slice-read-if2 c = search needs
 
 returns-2 : tie.Need-returns-2
-unfolding linkBodyBy
+unfolding linkBodyNumber
 returns-2 c = passes 23 (ap not (eq-eqb _ _ (c .before .before .if1 .left))) (stops 24 _ (lt-ltb _ _ (c .if2 .taken)))
 
 link-in-requires : tie.Need-link-in-requires
@@ -29,12 +27,12 @@ link-number-requires : tie.Need-link-number-requires
 link-number-requires c κs = search needs
 
 returns-3 : tie.Need-returns-3
-unfolding linkBodyBy
+unfolding linkBodyNumber
 returns-3 c =
     let s = c .before .before .before .before .before .before in
     passes 23 (ap not (eq-eqb _ _ (c .before .before .before .before .if1 .left)))
     (passes 24 (le-ltb _ _ (c .before .before .if2 .left))
-    (c .link-number .ensures ∙ ap (λ (x : Link). linkBy (s .args .asked) (s .args .n) (s .args .m) (bothKnown (s .args .keys .now) (s .args .n) (stationOf (x .a)) (stationOf (x .b))) (eitherBy (s .args .near .now) (s .args .far .now) (s .args .m) x) x) (c .before .link-in .ensures)))
+    (c .link-number .ensures ∙ ap (linkByKeys (s .args .asked) (s .args .keys .now) (s .args .n) (s .args .near .now) (s .args .far .now) (s .args .m)) (c .before .link-in .ensures)))
 
 pub link-body-number-spec : {M : Type 1} → statement M
 link-body-number-spec =

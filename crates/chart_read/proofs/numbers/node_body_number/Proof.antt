@@ -2,19 +2,18 @@
 use mathlib.Core.Path.{ap, _∙_}
 use borrow.Author.Tests.{lt-ltb, le-ltb}
 use Rattle.lists.proofs.Chains.{stops, passes}
-use Rattle.chart.specs.declared.ChartNode.{ChartNode}
-use Rattle.chart_keys.specs.Keys.{known, nodeBy}
-use Rattle.chart_read.specs.ByKeys.{nodeBodyBy}
+use Rattle.chart_keys.specs.Keys.{nodeByKeys}
+use Rattle.chart_read.specs.Reading.{nodeBodyNumber}
 use borrow.Author.Needs.{needs}
 use Rattle.chart_read.proofs.numbers.node_body_number.Statement.{statement}
 use Rattle.chart_read.proofs.numbers.node_body_number.Tie as tie
 
 returns : tie.Need-returns
-unfolding nodeBodyBy
+unfolding nodeBodyNumber
 returns c = stops 23 _ (lt-ltb _ _ (c .if1 .taken))
 
 returns-2 : tie.Need-returns-2
-unfolding nodeBodyBy
+unfolding nodeBodyNumber
 returns-2 c = passes 23 (le-ltb _ _ (c .before .if1 .left)) (stops 23 _ (lt-ltb _ _ (c .if2 .taken)))
 
 node-in-requires : tie.Need-node-in-requires
@@ -24,12 +23,12 @@ node-number-requires : tie.Need-node-number-requires
 node-number-requires c κs = search needs
 
 returns-3 : tie.Need-returns-3
-unfolding nodeBodyBy
+unfolding nodeBodyNumber
 returns-3 c =
     let s = c .before .before .before .before .before in
     passes 23 (le-ltb _ _ (c .before .before .before .if1 .left))
     (passes 23 (le-ltb _ _ (c .before .before .if2 .left))
-    (c .node-number .ensures ∙ ap (λ (x : ChartNode). nodeBy (s .args .late) (s .args .n) (known (s .args .keys .now) (s .args .n) (x .station)) x) (c .before .node-in .ensures)))
+    (c .node-number .ensures ∙ ap (nodeByKeys (s .args .late) (s .args .keys .now) (s .args .n)) (c .before .node-in .ensures)))
 
 pub node-body-number-spec : {M : Type 1} → statement M
 node-body-number-spec =

@@ -3,15 +3,14 @@ use mathlib.Core.Path.{ap, ap₂, _∙_}
 use mathlib.Core.Bool.{not}
 use borrow.Author.Tests.{eq-eqb, ne-eqb}
 use Rattle.lists.proofs.Chains.{stops, passes}
-use Rattle.address.specs.declared.Station.{Station}
-use Rattle.chart_keys.specs.Keys.{bothKnown, questionBy}
-use Rattle.chart_read.specs.ByKeys.{questionBodyBy}
+use Rattle.chart_keys.specs.Keys.{questionByKeys}
+use Rattle.chart_read.specs.Reading.{questionBodyNumber}
 use borrow.Author.Needs.{needs}
 use Rattle.chart_read.proofs.numbers.question_body_number.Statement.{statement}
 use Rattle.chart_read.proofs.numbers.question_body_number.Tie as tie
 
 returns : tie.Need-returns
-unfolding questionBodyBy
+unfolding questionBodyNumber
 returns c = stops 23 _ (ap not (ne-eqb _ _ (c .if1 .taken)))
 
 station-in-requires : tie.Need-station-in-requires
@@ -24,11 +23,11 @@ question-number-requires : tie.Need-question-number-requires
 question-number-requires c κs = search needs
 
 returns-2 : tie.Need-returns-2
-unfolding questionBodyBy
+unfolding questionBodyNumber
 returns-2 c =
     let s = c .before .before .before .before .before in
     passes 23 (ap not (eq-eqb _ _ (c .before .before .before .if1 .left)))
-    (c .question-number .ensures ∙ ap₂ (λ (x y : Station). questionBy (s .args .asked) (s .args .n) (bothKnown (s .args .keys .now) (s .args .n) x y) x y) (c .before .before .station-in .ensures) (c .before .station-in2 .ensures))
+    (c .question-number .ensures ∙ ap₂ (questionByKeys (s .args .asked) (s .args .keys .now) (s .args .n)) (c .before .before .station-in .ensures) (c .before .station-in2 .ensures))
 
 pub question-body-number-spec : {M : Type 1} → statement M
 question-body-number-spec =

@@ -1,8 +1,8 @@
 -- `chart_write::numbers::link_keys` meets its contract. The loop's invariant: the keys of the links before i are there.
-use Prim.Native.Nat.{ℕ, _≤_, _<_, _-_}
-use mathlib.Core.Path.{_≡_, refl, subst, _∙_}
+use Prim.Native.Nat.{ℕ, _+_, _-_, _≤_, _<_}
+use mathlib.Core.Path.{_≡_, subst, _∙_}
 use native.Mathlib.Omega.{arith}
-use lib.ListN.{length, length-map, getD, length-set}
+use lib.ListN.{length, length-map, length-set}
 use borrow.Author.Needs.{needs}
 use Rattle.chart.specs.declared.Link.{Link}
 use Rattle.chart.specs.Values.{linkAt}
@@ -66,8 +66,9 @@ loop-again c =
     let l = c .before .before .before .before .loop in
     let links = s .args .t1 in
     let g : l .i < length (links .items) = omega (arith, whole s) in
+    let next : l .i + 1 ≤ links .count = omega arith in
     let e = link-read links _ (l .i) g in (
-      omega arith,
+      next,
       length-set (l .near) (l .i) (c .before .end-key .result) ∙ l .inv .1,
       length-set (l .far) (l .i) (c .end-key2 .result) ∙ l .inv .2,
       record {
