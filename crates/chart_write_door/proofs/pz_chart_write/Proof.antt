@@ -1,0 +1,60 @@
+-- `chart_write_door::pz_chart_write` meets its contract: a short image is refused; else the writer's own answer is what C gets.
+use mathlib.Core.Path.{sym, ap, _∙_}
+use native.Mathlib.Omega.{arith}
+use Rattle.lists.specs.Writing.{writeNumber, writeCount}
+use Rattle.chart_write.proofs.Promises.{read-undoes-write}
+use Rattle.chart_write_door.proofs.Laws.{write-short, write-done}
+use borrow.Author.Needs.{needs}
+use Rattle.chart_write_door.proofs.pz_chart_write.Statement.{statement}
+use Rattle.chart_write_door.proofs.pz_chart_write.Tie as tie
+
+returns : tie.Need-returns
+returns c = write-short (c .before .before .before .args .image .now) (c .before .before .before .args .chart .now) (c .if1 .taken)
+
+chart-in-requires : tie.Need-chart-in-requires
+chart-in-requires c κs = search needs
+
+write-chart-requires : tie.Need-write-chart-requires
+write-chart-requires c κs = search needs
+
+enum-known-answer : tie.Need-enum-known-answer
+enum-known-answer c = search needs
+
+enum-told : tie.Need-enum-told
+enum-told c = search needs
+
+write-number-requires : tie.Need-write-number-requires
+write-number-requires c κs = search needs
+
+same-length : tie.Need-same-length
+same-length c = search needs
+
+returns-2 : tie.Need-returns-2
+returns-2 c = write-done (c .before .before .before .before .before .before .before .before .before .before .before .args .image .now) (c .before .before .before .before .before .before .before .before .before .before .before .args .chart .now) (c .before .before .before .before .before .before .before .before .if1 .left) (c .before .before .before .before .before .before .before .chart-in .ensures) (c .before .before .before .before .before .write-chart .result) (c .before .before .before .before .before .write-chart .ensures .1 .0) (c .before .before .before .before .before .write-chart .ensures .1 .1 .0) (c .before .before .before .before .before .write-chart .ensures .1 .1 .1) (c .write-number .ensures) (ap writeCount (sym (c .before .enum-told .given .1)))
+
+cast-written : tie.Need-cast-written
+cast-written c =
+    let s = read-undoes-write _ (c .before .before .before .before .before .before .before .before .before .before .before .args .chart .now) (c .before .answer .given .0 .0) (sym (c .before .before .before .before .before .write-chart .ensures .0) ∙ c .before .answer .given .1) .short in
+    record { fits = omega arith }
+
+same-length-2 : tie.Need-same-length-2
+same-length-2 c = search needs
+
+returns-3 : tie.Need-returns-3
+returns-3 c = write-done (c .before .before .before .before .before .before .before .before .before .before .before .args .image .now) (c .before .before .before .before .before .before .before .before .before .before .before .args .chart .now) (c .before .before .before .before .before .before .before .before .if1 .left) (c .before .before .before .before .before .before .before .chart-in .ensures) (c .before .before .before .before .before .write-chart .result) (c .before .before .before .before .before .write-chart .ensures .1 .0) (c .before .before .before .before .before .write-chart .ensures .1 .1 .0) (c .before .before .before .before .before .write-chart .ensures .1 .1 .1) (ap writeNumber (sym (c .before .answer .given .1))) (ap writeCount (sym (c .before .answer .given .1)))
+
+pub pz-chart-write-spec : {M : Type 1} → statement M
+pz-chart-write-spec =
+    tie.close
+    (tie.spec
+    returns
+    chart-in-requires
+    write-chart-requires
+    enum-known-answer
+    enum-told
+    write-number-requires
+    same-length
+    returns-2
+    cast-written
+    same-length-2
+    returns-3)
