@@ -12,8 +12,8 @@ use Rattle.ledger.specs.Rules.{legAt, isOpen, openLeg, alike, ticksRight, legRi
 use Rattle.answer.specs.Answer.{standingFor, settled, withLeg, answeredAt, answeredPlace, answerNumber as legNumber, answerOf}
 use Rattle.tick.specs.Tick.{timesOut, ticked, tickedLedger, tickNumber, tickOf}
 use Rattle.ledger_laws.specs.Calls.{numberOf, after}
-use Rattle.chart.specs.Values.{noChart, nodeAt, linkAt, strayByte, nodeInRange, endInRange, linkInRange, standsAt, written, isEnd, endsAt, used}
-use Rattle.chart.specs.Numbers.{bothWritten, eitherUsed, nodeBy, linkBy, questionBy, nodeNumber, linkNumber, questionNumber}
+use Rattle.chart.specs.Values.{noChart, nodeAt, linkAt, strayByte, nodeInRange, endInRange, linkInRange, standsAt, written, endsAt, used}
+use Rattle.chart.specs.Numbers.{nodeBy, linkBy, questionBy, nodeNumber, linkNumber, questionNumber}
 use Rattle.chart.specs.Sample.{S, bytesS}
 use Rattle.chart_read.specs.Fields.{bytesFrom, nodeIn, linkIn}
 use Rattle.chart_read.specs.Reading.{nothing, withNode, withLink, withQuestion, withBody, nodeLate, refusing, nodeBodyNumber, linkBodyNumber, questionBodyNumber, bodyNumber, fieldNumber, walk, chartReadOf}
@@ -46,12 +46,12 @@ each (k ∷ ks) e c m = go (each ks (tail-eq-of-cons-eq e) c) (List·Memᴰ·cas
 
 -- they agree on the table
 computed : back table ≡ meant table
-unfolding chartReadOf walk unlessRefused nothing noChart fieldNumber bodyNumber refusing nodeBodyNumber linkBodyNumber questionBodyNumber nodeLate nodeIn linkIn bytesFrom withBody withNode withLink withQuestion nodeBy linkBy questionBy nodeNumber linkNumber questionNumber bothWritten eitherUsed nodeInRange linkInRange endInRange stationInRange inRange sameStation sameAddress written used standsAt endsAt isEnd nodeAt linkAt strayByte anyBelow firstBelow elementAt firsts row also only upFrom linksFrom over tries routes unmet allFrom allRoutes sameLinks placeIn crossed farIn chartNet start routesOf chartNumber valuesNumber firstNumber nodeNumberAt linkNumberAt firstOf nextOf answerNumber answerRoute told firstRefusal nextRefusal firstRefusalOf nextRefusalOf traceFirst traceNext entryAt isOwn covers qualifies qualifiesAt hasRoute outPort outOf targetInRange entryInRange strayEntry tableInRange callInRange chooseOf sameAt repeatAt repeats howMany legAt isOpen openLeg alike ticksRight legRight wrongAt obeys standingFor settled withLeg answeredAt answeredPlace legNumber answerOf timesOut ticked tickedLedger tickNumber tickOf numberOf after S bytesS T two one listFrom returnedBy afterAll answerTo table
+unfolding chartReadOf walk unlessRefused nothing noChart fieldNumber bodyNumber refusing nodeBodyNumber linkBodyNumber questionBodyNumber nodeLate nodeIn linkIn bytesFrom withBody withNode withLink withQuestion nodeBy linkBy questionBy nodeNumber linkNumber questionNumber nodeInRange linkInRange endInRange stationInRange inRange sameStation sameAddress written used standsAt endsAt nodeAt linkAt strayByte anyBelow firstBelow elementAt firsts row also only upFrom linksFrom over tries routes unmet allFrom allRoutes sameLinks placeIn crossed farIn chartNet start routesOf chartNumber valuesNumber firstNumber nodeNumberAt linkNumberAt firstOf nextOf answerNumber answerRoute told firstRefusal nextRefusal firstRefusalOf nextRefusalOf traceFirst traceNext entryAt isOwn covers qualifies qualifiesAt hasRoute outPort outOf targetInRange entryInRange strayEntry tableInRange callInRange chooseOf sameAt repeatAt repeats howMany legAt isOpen openLeg alike ticksRight legRight wrongAt obeys standingFor settled withLeg answeredAt answeredPlace legNumber answerOf timesOut ticked tickedLedger tickNumber tickOf numberOf after S bytesS T two one listFrom returnedBy afterAll answerTo table
 computed = refl
 
 pub all-hold : AllHold
 all-hold = each table computed
 
 pub slipped : Slipped
-unfolding chartReadOf walk unlessRefused nothing noChart fieldNumber bodyNumber refusing nodeBodyNumber linkBodyNumber questionBodyNumber nodeLate nodeIn linkIn bytesFrom withBody withNode withLink withQuestion nodeBy linkBy questionBy nodeNumber linkNumber questionNumber bothWritten eitherUsed nodeInRange linkInRange endInRange stationInRange inRange sameStation sameAddress written used standsAt endsAt isEnd nodeAt linkAt strayByte anyBelow firstBelow elementAt firsts row also only upFrom linksFrom over tries routes unmet allFrom allRoutes sameLinks placeIn crossed farIn chartNet start routesOf bytesS
+unfolding chartReadOf walk unlessRefused nothing noChart fieldNumber bodyNumber refusing nodeBodyNumber linkBodyNumber questionBodyNumber nodeLate nodeIn linkIn bytesFrom withBody withNode withLink withQuestion nodeBy linkBy questionBy nodeNumber linkNumber questionNumber nodeInRange linkInRange endInRange stationInRange inRange sameStation sameAddress written used standsAt endsAt nodeAt linkAt strayByte anyBelow firstBelow elementAt firsts row also only upFrom linksFrom over tries routes unmet allFrom allRoutes sameLinks placeIn crossed farIn chartNet start routesOf bytesS
 slipped = record { right = refl; wrong = refl }

@@ -2,7 +2,7 @@
 use Prim.Native.Nat.{ℕ, _<_, _≤_}
 use mathlib.Core.Path.{_≡_}
 use mathlib.Core.List.{List}
-use mathlib.Core.Bool.{Bool, true, false, not, _&&_}
+use mathlib.Core.Bool.{Bool, true, false, not, _&&_, _||_}
 use lib.ListN.{length, getD}
 use lib.Dec.{ltb, leb}
 use borrow.Author.Tests.{lt-ltb, le-ltb, ltb-false, leb-false, not-false}
@@ -15,8 +15,8 @@ use Rattle.chart.specs.declared.ChartNode.{ChartNode}
 use Rattle.chart.specs.declared.Link.{Link}
 use Rattle.chart.specs.declared.Nodes.{Nodes}
 use Rattle.chart.specs.declared.Links.{Links}
-use Rattle.chart.specs.Values.{noNode, noLink, nodeAt, linkAt, strayByte, nodeInRange, linkInRange, written}
-use Rattle.chart.specs.Numbers.{bothWritten, eitherUsed, nodeBy, linkBy, questionBy, nodeNumber, linkNumber, questionNumber}
+use Rattle.chart.specs.Values.{noNode, noLink, nodeAt, linkAt, strayByte, nodeInRange, linkInRange, written, used}
+use Rattle.chart.specs.Numbers.{nodeBy, linkBy, questionBy, nodeNumber, linkNumber, questionNumber}
 
 -- ---- what a loop reads at a place
 
@@ -72,9 +72,9 @@ pub record LinkPassed (late : Bool) (ns : Nodes) (ls : Links) (l : Link) : Type 
   pub timely : late ≡ false
   pub few : ns .count ≤ 16
   pub room : ls .count < 48
-  pub ends : bothWritten ns (stationOf (l .a)) (stationOf (l .b)) ≡ true
+  pub ends : (written ns (stationOf (l .a)) && written ns (stationOf (l .b))) ≡ true
   pub apart : sameStation (stationOf (l .a)) (stationOf (l .b)) ≡ false
-  pub fresh : eitherUsed ls l ≡ false
+  pub fresh : (used ls (l .a) || used ls (l .b)) ≡ false
 
 pub link-passed : (late : Bool) (ns : Nodes) (ls : Links) (l : Link) → linkNumber late ns ls l ≡ 0 → LinkPassed late ns ls l
 unfolding linkNumber linkBy
@@ -83,16 +83,16 @@ link-passed late ns ls l e =
     let q = pass 24 late _ (p .1) in
     let r = pass 25 (ltb 16 (ns .count)) _ (q .1) in
     let t = pass 25 (leb 48 (ls .count)) _ (r .1) in
-    let u = pass 27 (not (bothWritten ns (stationOf (l .a)) (stationOf (l .b)))) _ (t .1) in
+    let u = pass 27 (not (written ns (stationOf (l .a)) && written ns (stationOf (l .b)))) _ (t .1) in
     let v = pass 28 (sameStation (stationOf (l .a)) (stationOf (l .b))) _ (u .1) in
     record {
       ranged = not-false (linkInRange l) (p .0);
       timely = q .0;
       few = ltb-false 16 (ns .count) (r .0);
       room = leb-false 48 (ls .count) (t .0);
-      ends = not-false (bothWritten ns (stationOf (l .a)) (stationOf (l .b))) (u .0);
+      ends = not-false (written ns (stationOf (l .a)) && written ns (stationOf (l .b))) (u .0);
       apart = v .0;
-      fresh = pass 29 (eitherUsed ls l) _ (v .1) .0;
+      fresh = pass 29 (used ls (l .a) || used ls (l .b)) _ (v .1) .0;
     }
 
 -- a question that is let pass
@@ -100,7 +100,7 @@ pub record QuestionPassed (late : Bool) (ns : Nodes) (from to : Station) : Type 
   pub ranged : (stationInRange from && stationInRange to) ≡ true
   pub timely : late ≡ false
   pub few : ns .count ≤ 16
-  pub ends : bothWritten ns from to ≡ true
+  pub ends : (written ns from && written ns to) ≡ true
 
 pub question-passed : (late : Bool) (ns : Nodes) (from to : Station) → questionNumber late ns from to ≡ 0 → QuestionPassed late ns from to
 unfolding questionNumber questionBy
@@ -108,10 +108,10 @@ question-passed late ns from to e =
     let p = pass 23 (not (stationInRange from && stationInRange to)) _ e in
     let q = pass 24 late _ (p .1) in
     let r = pass 25 (ltb 16 (ns .count)) _ (q .1) in
-    let t = pass 27 (not (bothWritten ns from to)) _ (r .1) in
+    let t = pass 27 (not (written ns from && written ns to)) _ (r .1) in
     record {
       ranged = not-false (stationInRange from && stationInRange to) (p .0);
       timely = q .0;
       few = ltb-false 16 (ns .count) (r .0);
-      ends = not-false (bothWritten ns from to) (t .0);
+      ends = not-false (written ns from && written ns to) (t .0);
     }

@@ -4,6 +4,7 @@ use mathlib.Core.Bool.{Bool, not, _&&_, _||_}
 use lib.Dec.{ltb, leb}
 use Rattle.lists.specs.Refusals.{refuse}
 use Rattle.address.specs.declared.Station.{Station}
+use Rattle.address.specs.declared.Address.{Address}
 use Rattle.address.specs.Address.{stationOf, stationInRange, sameStation}
 use Rattle.chart.specs.declared.ChartNode.{ChartNode}
 use Rattle.chart.specs.declared.Link.{Link}
@@ -11,50 +12,42 @@ use Rattle.chart.specs.declared.Nodes.{Nodes}
 use Rattle.chart.specs.declared.Links.{Links}
 use Rattle.chart.specs.Values.{mostNodes, mostLinks, longestLabel, nodeInRange, linkInRange, written, used}
 
--- both stations are among the nodes
-unfoldable pub bothWritten : Nodes → Station → Station → Bool
-bothWritten ns s t = written ns s && written ns t
-
--- one of a link's ends is an end of an earlier link
-unfoldable pub eitherUsed : Links → Link → Bool
-eitherUsed ls l = used ls (l .a) || used ls (l .b)
-
--- a node's number after so many nodes, whether one of them has its station: 23 its label would give the field a length that a node does not allow, 24 a value
--- out of range, 25 it comes too late, 26 the nodes are 16 already, 27 one has its station
-unfoldable pub nodeBy : Bool → ℕ → Bool → ChartNode → ℕ
-nodeBy late nodes twice n =
+-- a node's number after so many nodes, whose stations are known: 23 its label would give the field a length that a node does not allow, 24 a value out of
+-- range, 25 it comes too late, 26 the nodes are 16 already, 27 one of them has its station
+unfoldable pub nodeBy : Bool → ℕ → (Station → Bool) → ChartNode → ℕ
+nodeBy late nodes known n =
     refuse 23 (ltb longestLabel (n .length))
     (refuse 24 (not (nodeInRange n))
     (refuse 25 late
     (refuse 26 (leb mostNodes nodes)
-    (refuse 27 twice 0))))
+    (refuse 27 (known (n .station)) 0))))
 
--- a link's number after so many nodes and links, whether both its ends are at nodes and whether one is used: 24 a value out of range, 25 it comes too late,
--- 26 the links are 48 already (or the nodes too many), 28 an end at no node, 29 both ends at one node, 30 an end that an earlier link has
-unfoldable pub linkBy : Bool → ℕ → ℕ → Bool → Bool → Link → ℕ
-linkBy late nodes links both used l =
+-- a link's number after so many nodes and links, whose ends are taken: 24 a value out of range, 25 it comes too late, 26 the links are 48 already (or the nodes
+-- too many), 28 an end at no node, 29 both ends at one node, 30 an end that an earlier link has
+unfoldable pub linkBy : Bool → ℕ → ℕ → (Station → Bool) → (Address → Bool) → Link → ℕ
+linkBy late nodes links known taken l =
     refuse 24 (not (linkInRange l))
     (refuse 25 late
     (refuse 26 (ltb mostNodes nodes)
     (refuse 26 (leb mostLinks links)
-    (refuse 28 (not both)
+    (refuse 28 (not (known (stationOf (l .a)) && known (stationOf (l .b))))
     (refuse 29 (sameStation (stationOf (l .a)) (stationOf (l .b)))
-    (refuse 30 used 0))))))
+    (refuse 30 (taken (l .a) || taken (l .b)) 0))))))
 
 -- the question's number, likewise: 24 a value out of range, 25 it comes too late, 26 the nodes are too many, 28 a station at no node
-unfoldable pub questionBy : Bool → ℕ → Bool → Station → Station → ℕ
-questionBy late nodes both from to =
+unfoldable pub questionBy : Bool → ℕ → (Station → Bool) → Station → Station → ℕ
+questionBy late nodes known from to =
     refuse 24 (not (stationInRange from && stationInRange to))
     (refuse 25 late
     (refuse 26 (ltb mostNodes nodes)
-    (refuse 28 (not both) 0)))
+    (refuse 28 (not (known from && known to)) 0)))
 
 -- these numbers after the nodes and links themselves
 unfoldable pub nodeNumber : Bool → Nodes → ChartNode → ℕ
-nodeNumber late ns n = nodeBy late (ns .count) (written ns (n .station)) n
+nodeNumber late ns n = nodeBy late (ns .count) (written ns) n
 
 unfoldable pub linkNumber : Bool → Nodes → Links → Link → ℕ
-linkNumber late ns ls l = linkBy late (ns .count) (ls .count) (bothWritten ns (stationOf (l .a)) (stationOf (l .b))) (eitherUsed ls l) l
+linkNumber late ns ls l = linkBy late (ns .count) (ls .count) (written ns) (used ls) l
 
 unfoldable pub questionNumber : Bool → Nodes → Station → Station → ℕ
-questionNumber late ns from to = questionBy late (ns .count) (bothWritten ns from to) from to
+questionNumber late ns from to = questionBy late (ns .count) (written ns) from to

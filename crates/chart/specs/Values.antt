@@ -85,13 +85,9 @@ standsAt ns s i = sameStation (nodeAt ns i .station) s
 unfoldable pub written : Nodes → Station → Bool
 written ns s = anyBelow (standsAt ns s) (ns .count)
 
--- the address is an end of the link
-unfoldable pub isEnd : Address → Link → Bool
-isEnd e l = sameAddress (l .a) e || sameAddress (l .b) e
-
 -- the address is an end of the link at a place
 unfoldable pub endsAt : Links → Address → ℕ → Bool
-endsAt ls e i = isEnd e (linkAt ls i)
+endsAt ls e i = sameAddress (linkAt ls i .a) e || sameAddress (linkAt ls i .b) e
 
 -- the address is an end of one of the links
 unfoldable pub used : Links → Address → Bool

@@ -19,9 +19,9 @@ use Rattle.chart.specs.declared.ChartNode.{ChartNode}
 use Rattle.chart.specs.declared.Link.{Link}
 use Rattle.chart.specs.declared.Nodes.{Nodes}
 use Rattle.chart.specs.declared.Links.{Links}
-use Rattle.chart.specs.Values.{noNode, noLink, nodeAt, linkAt, standsAt, written, isEnd, endsAt, used}
-use Rattle.chart.specs.Numbers.{bothWritten, eitherUsed, nodeBy, linkBy, questionBy, nodeNumber, linkNumber, questionNumber}
-use Rattle.chart_keys.specs.Keys.{stationKey, endKey, KeysOf, StationKeyed, EndKeyed, KeyedNodes, KeyedLinks, keyIs, known, bothKnown, usedBy, eitherBy, nodeByKeys, linkByKeys, questionByKeys}
+use Rattle.chart.specs.Values.{noNode, noLink, nodeAt, linkAt, standsAt, written, endsAt, used}
+use Rattle.chart.specs.Numbers.{nodeBy, linkBy, questionBy, nodeNumber, linkNumber, questionNumber}
+use Rattle.chart_keys.specs.Keys.{stationKey, endKey, KeysOf, StationKeyed, EndKeyed, KeyedNodes, KeyedLinks, keyIs, known, usedBy, nodeByKeys, linkByKeys, questionByKeys}
 
 -- ---- as the code has them: with the key at hand
 
@@ -96,39 +96,34 @@ module _ (ns : Nodes) (keys : List ℕ) (h : KeyedNodes ns keys) where
   unfolding known written
   known-written s f = any-agree _ _ (ns .count) (stands-keyed s f)
 
-  both-keyed : (s t : Station) → s .node .0 ≤ 65535 → t .node .0 ≤ 65535 → bothKnown keys (ns .count) s t ≡ bothWritten ns s t
-  unfolding bothKnown bothWritten
+  both-keyed : (s t : Station) → s .node .0 ≤ 65535 → t .node .0 ≤ 65535 → (known keys (ns .count) s && known keys (ns .count) t) ≡ (written ns s && written ns t)
   both-keyed s t f g = ap₂ _&&_ (known-written s f) (known-written t g)
 
   pub node-keyed : (late : Bool) (n : ChartNode) → n .station .node .0 ≤ 65535 → nodeByKeys late keys (ns .count) n ≡ nodeNumber late ns n
-  unfolding nodeByKeys nodeNumber
-  node-keyed late n f = ap (λ (w : Bool). nodeBy late (ns .count) w n) (known-written (n .station) f)
+  unfolding nodeByKeys nodeNumber nodeBy
+  node-keyed late n f = rw (known-written (n .station) f)
 
   pub question-keyed : (late : Bool) (s t : Station) → s .node .0 ≤ 65535 → t .node .0 ≤ 65535
       → questionByKeys late keys (ns .count) s t ≡ questionNumber late ns s t
-  unfolding questionByKeys questionNumber
-  question-keyed late s t f g = ap (λ (w : Bool). questionBy late (ns .count) w s t) (both-keyed s t f g)
+  unfolding questionByKeys questionNumber questionBy
+  question-keyed late s t f g = rw (both-keyed s t f g)
 
   module _ (ls : Links) (near far : List ℕ) (g : KeyedLinks ls near far) where
     ends-keyed : (e : Address) (k : ℕ) → EndKeyed e k → (i : ℕ) → i < ls .count → (keyIs near (endKey e) i || keyIs far (endKey e) i) ≡ endsAt ls e i
-    unfolding keyIs endsAt isEnd
+    unfolding keyIs endsAt
     ends-keyed e k f i l = ap₂ _||_ (end-same (linkAt ls i .a) e _ k (g .a i l) f) (end-same (linkAt ls i .b) e _ k (g .b i l) f)
 
     used-keyed : (e : Address) (k : ℕ) → EndKeyed e k → usedBy near far (ls .count) e ≡ used ls e
     unfolding usedBy used
     used-keyed e k f = any-or (keyIs near (endKey e)) (keyIs far (endKey e)) (ls .count) ∙ any-agree _ _ (ls .count) (ends-keyed e k f)
 
-    either-keyed : (l : Link) (j k : ℕ) → EndKeyed (l .a) j → EndKeyed (l .b) k → eitherBy near far (ls .count) l ≡ eitherUsed ls l
-    unfolding eitherBy eitherUsed
+    either-keyed : (l : Link) (j k : ℕ) → EndKeyed (l .a) j → EndKeyed (l .b) k → (usedBy near far (ls .count) (l .a) || usedBy near far (ls .count) (l .b)) ≡ (used ls (l .a) || used ls (l .b))
     either-keyed l j k ha hb = ap₂ _||_ (used-keyed (l .a) j ha) (used-keyed (l .b) k hb)
 
     pub link-keyed : (late : Bool) (l : Link) (j k : ℕ) → EndKeyed (l .a) j → EndKeyed (l .b) k
         → linkByKeys late keys (ns .count) near far (ls .count) l ≡ linkNumber late ns ls l
-    unfolding linkByKeys linkNumber
-    link-keyed late l j k ha hb =
-        ap₂ (λ (x y : Bool). linkBy late (ns .count) (ls .count) x y l)
-        (both-keyed (stationOf (l .a)) (stationOf (l .b)) (ha .node) (hb .node))
-        (either-keyed l j k ha hb)
+    unfolding linkByKeys linkNumber linkBy
+    link-keyed late l j k ha hb = rw (both-keyed (stationOf (l .a)) (stationOf (l .b)) (ha .node) (hb .node), either-keyed l j k ha hb)
 
 -- ---- one more
 

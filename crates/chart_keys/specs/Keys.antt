@@ -2,13 +2,12 @@
 use Prim.Native.Nat.{ℕ, _+_, _*_, _<_, _≤_}
 use mathlib.Core.Path.{_≡_}
 use mathlib.Core.List.{List}
-use mathlib.Core.Bool.{Bool, _&&_, _||_}
+use mathlib.Core.Bool.{Bool, _||_}
 use lib.ListN.{length, getD}
 use lib.Dec.{eqb}
 use Rattle.lists.specs.Places.{anyBelow}
 use Rattle.address.specs.declared.Station.{Station}
 use Rattle.address.specs.declared.Address.{Address}
-use Rattle.address.specs.Address.{stationOf}
 use Rattle.chart.specs.declared.ChartNode.{ChartNode}
 use Rattle.chart.specs.declared.Link.{Link}
 use Rattle.chart.specs.declared.Nodes.{Nodes}
@@ -57,25 +56,17 @@ keyIs keys k i = eqb (getD keys i 0) k
 unfoldable pub known : List ℕ → ℕ → Station → Bool
 known keys n s = anyBelow (keyIs keys (stationKey s)) n
 
--- both stations' keys are
-unfoldable pub bothKnown : List ℕ → ℕ → Station → Station → Bool
-bothKnown keys n s t = known keys n s && known keys n t
-
 -- the end's key is among those of the first m links: of their first ends, or of their second
 unfoldable pub usedBy : List ℕ → List ℕ → ℕ → Address → Bool
 usedBy near far m e = anyBelow (keyIs near (endKey e)) m || anyBelow (keyIs far (endKey e)) m
 
--- one of a link's ends has a key among those of the first m links
-unfoldable pub eitherBy : List ℕ → List ℕ → ℕ → Link → Bool
-eitherBy near far m l = usedBy near far m (l .a) || usedBy near far m (l .b)
-
 -- ---- the numbers, by the first n keys of nodes and the first m of links
 
 unfoldable pub nodeByKeys : Bool → List ℕ → ℕ → ChartNode → ℕ
-nodeByKeys late keys n x = nodeBy late n (known keys n (x .station)) x
+nodeByKeys late keys n x = nodeBy late n (known keys n) x
 
 unfoldable pub linkByKeys : Bool → List ℕ → ℕ → List ℕ → List ℕ → ℕ → Link → ℕ
-linkByKeys late keys n near far m l = linkBy late n m (bothKnown keys n (stationOf (l .a)) (stationOf (l .b))) (eitherBy near far m l) l
+linkByKeys late keys n near far m l = linkBy late n m (known keys n) (usedBy near far m) l
 
 unfoldable pub questionByKeys : Bool → List ℕ → ℕ → Station → Station → ℕ
-questionByKeys late keys n from to = questionBy late n (bothKnown keys n from to) from to
+questionByKeys late keys n from to = questionBy late n (known keys n) from to

@@ -4,9 +4,10 @@ use address::Station;
 use chart::Link;
 use chart::Nodes;
 ghost use mathlib.Core.Path.{_≡_};
+ghost use mathlib.Core.Bool.{_&&_, _||_};
 ghost use Prim.Native.Nat.{_≤_};
 ghost use Rattle.lists.specs.Places.{anyBelow};
-ghost use Rattle.chart_keys.specs.Keys.{StationKeyed, EndKeyed, KeysOf, keyIs, known, bothKnown, usedBy, eitherBy};
+ghost use Rattle.chart_keys.specs.Keys.{StationKeyed, EndKeyed, KeysOf, keyIs, known, usedBy};
 
 // The three bytes of a station as one number.
 pub fn station_key(s: Station) -> u32
@@ -60,7 +61,7 @@ pub fn is_known(keys: &[u32; 16], n: usize, s: Station) -> bool
 // Whether the keys of both stations are.
 pub fn both_known(keys: &[u32; 16], n: usize, s: Station, t: Station) -> bool
     requires { ⌜ n ≤ 16 ⌝ }
-    ensures { λ r. ⌜ r ≡ bothKnown (now (keys .entry)) n s t ⌝ }
+    ensures { λ r. ⌜ r ≡ (known (now (keys .entry)) n s && known (now (keys .entry)) n t) ⌝ }
 {
     if !is_known(keys, n, s) {
         return false;
@@ -99,7 +100,7 @@ fn is_used(near: &[u32; 48], far: &[u32; 48], m: usize, e: Address) -> bool
 // Whether one of the link's ends has a key among those of the first m links.
 pub fn either_used(near: &[u32; 48], far: &[u32; 48], m: usize, l: Link) -> bool
     requires { ⌜ m ≤ 48 ⌝ }
-    ensures { λ r. ⌜ r ≡ eitherBy (now (near .entry)) (now (far .entry)) m l ⌝ }
+    ensures { λ r. ⌜ r ≡ (usedBy (now (near .entry)) (now (far .entry)) m (l .a) || usedBy (now (near .entry)) (now (far .entry)) m (l .b)) ⌝ }
 {
     let a = l.a;
     if is_used(near, far, m, a) {

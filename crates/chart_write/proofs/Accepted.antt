@@ -1,20 +1,18 @@
 -- An accepted chart is what `Accepted` says: each of its values passed its own tests.
 use mathlib.Core.Path.{_≡_}
-use mathlib.Core.Bool.{true, false}
+use mathlib.Core.Bool.{true, false, _&&_}
 use Rattle.lists.proofs.Bools.{and-left, and-right}
 use Rattle.address.specs.declared.Station.{Station}
 use Rattle.address.specs.Address.{stationOf}
 use Rattle.chart.specs.declared.Nodes.{Nodes}
 use Rattle.chart.specs.declared.Chart.{Chart}
 use Rattle.chart.specs.Values.{linkAt, written}
-use Rattle.chart.specs.Numbers.{bothWritten}
 use Rattle.chart.proofs.Laws.{question-passed}
 use Rattle.chart_write.specs.Numbers.{chartNumber}
 use Rattle.chart_write.specs.Promises.{Accepted}
 use Rattle.chart_write.proofs.Laws.{passed, node-of, link-of}
 
-pub both-of : (ns : Nodes) (s t : Station) → bothWritten ns s t ≡ true → (written ns s ≡ true) × (written ns t ≡ true)
-unfolding bothWritten
+pub both-of : (ns : Nodes) (s t : Station) → (written ns s && written ns t) ≡ true → (written ns s ≡ true) × (written ns t ≡ true)
 both-of ns s t h = (and-left (written ns s) (written ns t) h, and-right (written ns s) (written ns t) h)
 
 pub accepted : (c : Chart) → chartNumber c ≡ 0 → Accepted c

@@ -1,19 +1,19 @@
 -- Numbers go by stations, ends and ranges alone: two charts that agree on these have the same numbers. A label's own bytes count only for its range.
 use Prim.Native.Nat.{ℕ, _<_}
-use mathlib.Core.Path.{_≡_, refl, sym, ap, ap₂, _∙_}
+use mathlib.Core.Path.{_≡_, refl, sym, ap, _∙_}
 use mathlib.Core.Bool.{Bool, not, _&&_, _||_}
 use lib.Dec.{ltb}
 use Rattle.lists.specs.Places.{anyBelow, elementAt, row}
 use Rattle.lists.proofs.Places.{any-agree, row-at}
 use Rattle.address.specs.declared.Station.{Station}
 use Rattle.address.specs.declared.Address.{Address}
-use Rattle.address.specs.Address.{stationOf, stationInRange, sameStation}
+use Rattle.address.specs.Address.{stationInRange, sameStation, sameAddress}
 use Rattle.chart.specs.declared.ChartNode.{ChartNode}
 use Rattle.chart.specs.declared.Link.{Link}
 use Rattle.chart.specs.declared.Nodes.{Nodes}
 use Rattle.chart.specs.declared.Links.{Links}
-use Rattle.chart.specs.Values.{nodeAt, linkAt, strayByte, nodeInRange, standsAt, written, isEnd, endsAt, used}
-use Rattle.chart.specs.Numbers.{bothWritten, eitherUsed, nodeBy, linkBy, questionBy, nodeNumber, linkNumber, questionNumber}
+use Rattle.chart.specs.Values.{nodeAt, linkAt, strayByte, nodeInRange, standsAt, written, endsAt, used}
+use Rattle.chart.specs.Numbers.{nodeBy, linkBy, questionBy, nodeNumber, linkNumber, questionNumber}
 use Rattle.chart_write.specs.Writing.{tidyNode}
 
 -- the same stations at the places below the same count
@@ -32,32 +32,24 @@ module _ (ns ms : Nodes) (e : SameNodes ns ms) where
       any-agree (standsAt ns s) (standsAt ms s) (ns .count) (λ i h. ap (λ (t : Station). sameStation t s) (e .stations i h))
       ∙ ap (anyBelow (standsAt ms s)) (e .count)
 
-  pub both-agree : (s t : Station) → bothWritten ns s t ≡ bothWritten ms s t
-  unfolding bothWritten
-  both-agree s t = ap₂ (λ (x y : Bool). x && y) (written-agree s) (written-agree t)
-
   pub node-agree : (late : Bool) (n : ChartNode) → nodeNumber late ns n ≡ nodeNumber late ms n
   unfolding nodeNumber
-  node-agree late n = ap₂ (λ (k : ℕ) (w : Bool). nodeBy late k w n) (e .count) (written-agree (n .station))
+  node-agree late n = λ i. nodeBy late (e .count i) (λ (s : Station). written-agree s i) n
 
   pub question-agree : (late : Bool) (from to : Station) → questionNumber late ns from to ≡ questionNumber late ms from to
   unfolding questionNumber
-  question-agree late from to = ap₂ (λ (k : ℕ) (w : Bool). questionBy late k w from to) (e .count) (both-agree from to)
+  question-agree late from to = λ i. questionBy late (e .count i) (λ (s : Station). written-agree s i) from to
 
   module _ (ls ks : Links) (f : SameLinks ls ks) where
     used-agree : (a : Address) → used ls a ≡ used ks a
     unfolding used endsAt
     used-agree a =
-        any-agree (endsAt ls a) (endsAt ks a) (ls .count) (λ i h. ap (isEnd a) (f .links i h))
+        any-agree (endsAt ls a) (endsAt ks a) (ls .count) (λ i h. ap (λ (l : Link). sameAddress (l .a) a || sameAddress (l .b) a) (f .links i h))
         ∙ ap (anyBelow (endsAt ks a)) (f .count)
-
-    either-agree : (l : Link) → eitherUsed ls l ≡ eitherUsed ks l
-    unfolding eitherUsed
-    either-agree l = ap₂ (λ (x y : Bool). x || y) (used-agree (l .a)) (used-agree (l .b))
 
     pub link-agree : (late : Bool) (l : Link) → linkNumber late ns ls l ≡ linkNumber late ms ks l
     unfolding linkNumber
-    link-agree late l = λ i. linkBy late (e .count i) (f .count i) (both-agree (stationOf (l .a)) (stationOf (l .b)) i) (either-agree l i) l
+    link-agree late l = λ i. linkBy late (e .count i) (f .count i) (λ (s : Station). written-agree s i) (λ (a : Address). used-agree a i) l
 
 -- a node's own number goes by its station, its label's length and whether the label is in range
 pub node-like : (late : Bool) (ns : Nodes) (n m : ChartNode) → n .station ≡ m .station → ltb 24 (n .length) ≡ ltb 24 (m .length)

@@ -2,7 +2,7 @@
 use Prim.Native.Nat.{ℕ, zero, suc}
 use mathlib.Core.Path.{_≡_, refl}
 use mathlib.Core.List.{List}
-use mathlib.Core.Bool.{Bool, true, false, not, cond, _&&_}
+use mathlib.Core.Bool.{Bool, true, false, not, cond, _&&_, _||_}
 use lib.ListN.{length, getD}
 use lib.Dec.{ltb, leb, eqb}
 use Rattle.lists.specs.Refusals.{refuse, orElse, among}
@@ -13,8 +13,8 @@ use Rattle.address.specs.Wide.{stationIn}
 use Rattle.chart.specs.declared.Nodes.{Nodes}
 use Rattle.chart.specs.declared.Links.{Links}
 use Rattle.chart.specs.declared.Chart.{Chart}
-use Rattle.chart.specs.Values.{nodeAt, linkAt, nodeInRange, linkInRange, written}
-use Rattle.chart.specs.Numbers.{bothWritten, eitherUsed, nodeBy, linkBy, questionBy, nodeNumber, linkNumber, questionNumber}
+use Rattle.chart.specs.Values.{nodeAt, linkAt, nodeInRange, linkInRange, written, used}
+use Rattle.chart.specs.Numbers.{nodeBy, linkBy, questionBy, nodeNumber, linkNumber, questionNumber}
 use Rattle.chart_read.specs.declared.ChartRead.{ChartRead}
 use Rattle.chart_read.specs.Fields.{tagAt, bodyAt, pastField, cutShort, nodeIn, linkIn}
 use Rattle.chart_read.specs.Reading.{SoFar, nothing, nodeLate, refusing, nodeBodyNumber, linkBodyNumber, questionBodyNumber, bodyNumber, fieldNumber, refusedAt, atEnd, onward, walk, chartReadOf}
@@ -69,16 +69,16 @@ link-given ns ls i =
     tested W 24 (not (linkInRange l)) refl
     (tested W 26 (ltb 16 (ns .count)) refl
     (tested W 26 (leb 48 i) refl
-    (tested W 28 (not (bothWritten ns (stationOf (l .a)) (stationOf (l .b)))) refl
+    (tested W 28 (not (written ns (stationOf (l .a)) && written ns (stationOf (l .b)))) refl
     (tested W 29 (sameStation (stationOf (l .a)) (stationOf (l .b))) refl
-    (tested W 30 (eitherUsed (linksBefore ls i) l) refl none-written)))))
+    (tested W 30 (used (linksBefore ls i) (l .a) || used (linksBefore ls i) (l .b)) refl none-written)))))
 
 question-given : (ns : Nodes) (from to : Station) → Given W (questionNumber false ns from to)
 unfolding questionNumber questionBy
 question-given ns from to =
     tested W 24 (not (stationInRange from && stationInRange to)) refl
     (tested W 26 (ltb 16 (ns .count)) refl
-    (tested W 28 (not (bothWritten ns from to)) refl none-written))
+    (tested W 28 (not (written ns from && written ns to)) refl none-written))
 
 values-given : (c : Chart) → Given W (valuesNumber c)
 unfolding valuesNumber
@@ -129,9 +129,9 @@ module _ (s : SoFar) (b : List ℕ) where
       (tested R 25 (s .asked) refl
       (tested R 26 (ltb 16 (ns .count)) refl
       (tested R 26 (leb 48 (ls .count)) refl
-      (tested R 28 (not (bothWritten ns (stationOf (l .a)) (stationOf (l .b)))) refl
+      (tested R 28 (not (written ns (stationOf (l .a)) && written ns (stationOf (l .b)))) refl
       (tested R 29 (sameStation (stationOf (l .a)) (stationOf (l .b))) refl
-      (tested R 30 (eitherUsed ls l) refl none-read))))))))
+      (tested R 30 (used ls (l .a) || used ls (l .b)) refl none-read))))))))
 
   question-read-given : Given R (questionBodyNumber (refusing s .question) b)
   unfolding questionBodyNumber refusing questionNumber questionBy
@@ -142,7 +142,7 @@ module _ (s : SoFar) (b : List ℕ) where
       (tested R 24 (not (stationInRange from && stationInRange to)) refl
       (tested R 25 (s .asked) refl
       (tested R 26 (ltb 16 (s .chart .nodes .count)) refl
-      (tested R 28 (not (bothWritten (s .chart .nodes) from to)) refl none-read))))
+      (tested R 28 (not (written (s .chart .nodes) from && written (s .chart .nodes) to)) refl none-read))))
 
   body-given : (tag : ℕ) → Given R (bodyNumber (refusing s) tag b)
   unfolding bodyNumber

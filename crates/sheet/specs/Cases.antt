@@ -6,8 +6,8 @@ use lib.ListN.{replicate}
 use Rattle.lists.specs.Places.{anyBelow, firstBelow, elementAt, firsts, row, joined}
 use Rattle.lists.specs.Refusals.{unlessRefused}
 use Rattle.address.specs.Address.{stationInRange, inRange, sameStation, sameAddress}
-use Rattle.chart.specs.Values.{noChart, nodeAt, linkAt, strayByte, nodeInRange, endInRange, linkInRange, standsAt, written, isEnd, endsAt, used}
-use Rattle.chart.specs.Numbers.{bothWritten, eitherUsed, nodeBy, linkBy, questionBy, nodeNumber, linkNumber, questionNumber}
+use Rattle.chart.specs.Values.{noChart, nodeAt, linkAt, strayByte, nodeInRange, endInRange, linkInRange, standsAt, written, endsAt, used}
+use Rattle.chart.specs.Numbers.{nodeBy, linkBy, questionBy, nodeNumber, linkNumber, questionNumber}
 use Rattle.chart.specs.Sample.{bytesS}
 use Rattle.chart_read.specs.Fields.{bytesFrom, nodeIn, linkIn}
 use Rattle.chart_read.specs.Reading.{nothing, withNode, withLink, withQuestion, withBody, nodeLate, refusing, nodeBodyNumber, linkBodyNumber, questionBodyNumber, bodyNumber, fieldNumber, walk, chartReadOf}
@@ -54,5 +54,5 @@ pub record Cases : Type 0 where
   pub long : sheetText (replicate 4097 1) ≡ ascii "too long\n"
 
 pub cases : Cases
-unfolding sheetText readText chartText lineAt joined stationText endText labelText nodeLine linkLine countsLine questionLine refusedLine placesText routeLine listText digits chartReadOf walk unlessRefused nothing noChart fieldNumber bodyNumber refusing nodeBodyNumber linkBodyNumber questionBodyNumber nodeLate nodeIn linkIn bytesFrom withBody withNode withLink withQuestion nodeBy linkBy questionBy nodeNumber linkNumber questionNumber bothWritten eitherUsed nodeInRange linkInRange endInRange stationInRange inRange sameStation sameAddress written used standsAt endsAt isEnd nodeAt linkAt strayByte anyBelow firstBelow elementAt firsts row also only upFrom linksFrom over tries routes unmet allFrom allRoutes placeIn crossed farIn chartNet start routesOf bytesS textS
+unfolding sheetText readText chartText lineAt joined stationText endText labelText nodeLine linkLine countsLine questionLine refusedLine placesText routeLine listText digits chartReadOf walk unlessRefused nothing noChart fieldNumber bodyNumber refusing nodeBodyNumber linkBodyNumber questionBodyNumber nodeLate nodeIn linkIn bytesFrom withBody withNode withLink withQuestion nodeBy linkBy questionBy nodeNumber linkNumber questionNumber nodeInRange linkInRange endInRange stationInRange inRange sameStation sameAddress written used standsAt endsAt nodeAt linkAt strayByte anyBelow firstBelow elementAt firsts row also only upFrom linksFrom over tries routes unmet allFrom allRoutes placeIn crossed farIn chartNet start routesOf bytesS textS
 cases = record { whole = refl; one = refl; none = refl; bad = refl; long = refl }

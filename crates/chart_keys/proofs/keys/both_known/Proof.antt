@@ -1,7 +1,6 @@
 -- `chart_keys::keys::both_known` meets its contract: the first decides, else the second.
 use mathlib.Core.Path.{_∙_}
 use Rattle.lists.proofs.Bools.{stop1, go1, told-no, told-yes}
-use Rattle.chart_keys.specs.Keys.{bothKnown}
 use borrow.Author.Needs.{needs}
 use Rattle.chart_keys.proofs.keys.both_known.Statement.{statement}
 use Rattle.chart_keys.proofs.keys.both_known.Tie as tie
@@ -10,14 +9,12 @@ is-known-requires : tie.Need-is-known-requires
 is-known-requires c κs = search needs
 
 returns : tie.Need-returns
-unfolding bothKnown
 returns c = stop1 _ (told-no (c .before .is-known .ensures) (c .if1 .taken))
 
 is-known-requires-2 : tie.Need-is-known-requires-2
 is-known-requires-2 c κs = search needs
 
 returns-2 : tie.Need-returns-2
-unfolding bothKnown
 returns-2 c = c .is-known2 .ensures ∙ go1 (told-yes (c .before .before .is-known .ensures) (c .before .if1 .left))
 
 pub both-known-spec : {M : Type 1} → statement M

@@ -1,11 +1,12 @@
 -- `chart_keys::numbers::link_number` meets its contract: the tests on the way say which number.
 use mathlib.Core.Path.{refl, sym, ap, ap₂, _∙_}
-use mathlib.Core.Bool.{not}
+use mathlib.Core.Bool.{not, _&&_}
 use borrow.Author.Tests.{lt-ltb, le-ltb, le-leb, lt-leb}
 use Rattle.lists.proofs.Chains.{stops, passes}
+use Rattle.address.specs.declared.Station.{Station}
 use Rattle.address.specs.Address.{sameStation}
 use Rattle.chart.specs.Numbers.{linkBy}
-use Rattle.chart_keys.specs.Keys.{bothKnown, linkByKeys}
+use Rattle.chart_keys.specs.Keys.{known, linkByKeys}
 use borrow.Author.Needs.{needs}
 use Rattle.chart_keys.proofs.numbers.link_number.Statement.{statement}
 use Rattle.chart_keys.proofs.numbers.link_number.Tie as tie
@@ -46,25 +47,25 @@ both-known-requires c κs = search needs
 
 returns-5 : tie.Need-returns-5
 unfolding linkByKeys linkBy
-returns-5 c = passes 24 (ap not (sym (c .before .before .before .before .before .before .before .before .link-in-range .ensures)) ∙ c .before .before .before .before .before .before .before .if1 .left) (passes 25 (c .before .before .before .before .before .before .if2 .left) (passes 26 (le-ltb _ _ (c .before .before .before .before .before .if3 .left)) (passes 26 (lt-leb _ _ (c .before .before .before .before .if4 .left)) (stops 28 _ (ap not (sym (c .before .both-known .ensures ∙ ap₂ (bothKnown (c .before .before .before .before .before .before .before .before .before .args .keys .now) (c .before .before .before .before .before .before .before .before .before .args .n)) (c .before .before .before .station-of .ensures) (c .before .before .station-of2 .ensures))) ∙ c .if5 .taken)))))
+returns-5 c = passes 24 (ap not (sym (c .before .before .before .before .before .before .before .before .link-in-range .ensures)) ∙ c .before .before .before .before .before .before .before .if1 .left) (passes 25 (c .before .before .before .before .before .before .if2 .left) (passes 26 (le-ltb _ _ (c .before .before .before .before .before .if3 .left)) (passes 26 (lt-leb _ _ (c .before .before .before .before .if4 .left)) (stops 28 _ (ap not (sym (c .before .both-known .ensures ∙ ap₂ (λ (x y : Station). known (c .before .before .before .before .before .before .before .before .before .args .keys .now) (c .before .before .before .before .before .before .before .before .before .args .n) x && known (c .before .before .before .before .before .before .before .before .before .args .keys .now) (c .before .before .before .before .before .before .before .before .before .args .n) y) (c .before .before .before .station-of .ensures) (c .before .before .station-of2 .ensures))) ∙ c .if5 .taken)))))
 
 same-station-requires : tie.Need-same-station-requires
 same-station-requires c κs = search needs
 
 returns-6 : tie.Need-returns-6
 unfolding linkByKeys linkBy
-returns-6 c = passes 24 (ap not (sym (c .before .before .before .before .before .before .before .before .before .before .link-in-range .ensures)) ∙ c .before .before .before .before .before .before .before .before .before .if1 .left) (passes 25 (c .before .before .before .before .before .before .before .before .if2 .left) (passes 26 (le-ltb _ _ (c .before .before .before .before .before .before .before .if3 .left)) (passes 26 (lt-leb _ _ (c .before .before .before .before .before .before .if4 .left)) (passes 28 (ap not (sym (c .before .before .before .both-known .ensures ∙ ap₂ (bothKnown (c .before .before .before .before .before .before .before .before .before .before .before .args .keys .now) (c .before .before .before .before .before .before .before .before .before .before .before .args .n)) (c .before .before .before .before .before .station-of .ensures) (c .before .before .before .before .station-of2 .ensures))) ∙ c .before .before .if5 .left) (stops 29 _ (sym (c .before .same-station .ensures ∙ ap₂ sameStation (c .before .before .before .before .before .station-of .ensures) (c .before .before .before .before .station-of2 .ensures)) ∙ c .if6 .taken))))))
+returns-6 c = passes 24 (ap not (sym (c .before .before .before .before .before .before .before .before .before .before .link-in-range .ensures)) ∙ c .before .before .before .before .before .before .before .before .before .if1 .left) (passes 25 (c .before .before .before .before .before .before .before .before .if2 .left) (passes 26 (le-ltb _ _ (c .before .before .before .before .before .before .before .if3 .left)) (passes 26 (lt-leb _ _ (c .before .before .before .before .before .before .if4 .left)) (passes 28 (ap not (sym (c .before .before .before .both-known .ensures ∙ ap₂ (λ (x y : Station). known (c .before .before .before .before .before .before .before .before .before .before .before .args .keys .now) (c .before .before .before .before .before .before .before .before .before .before .before .args .n) x && known (c .before .before .before .before .before .before .before .before .before .before .before .args .keys .now) (c .before .before .before .before .before .before .before .before .before .before .before .args .n) y) (c .before .before .before .before .before .station-of .ensures) (c .before .before .before .before .station-of2 .ensures))) ∙ c .before .before .if5 .left) (stops 29 _ (sym (c .before .same-station .ensures ∙ ap₂ sameStation (c .before .before .before .before .before .station-of .ensures) (c .before .before .before .before .station-of2 .ensures)) ∙ c .if6 .taken))))))
 
 either-used-requires : tie.Need-either-used-requires
 either-used-requires c κs = search needs
 
 returns-7 : tie.Need-returns-7
 unfolding linkByKeys linkBy
-returns-7 c = passes 24 (ap not (sym (c .before .before .before .before .before .before .before .before .before .before .before .before .link-in-range .ensures)) ∙ c .before .before .before .before .before .before .before .before .before .before .before .if1 .left) (passes 25 (c .before .before .before .before .before .before .before .before .before .before .if2 .left) (passes 26 (le-ltb _ _ (c .before .before .before .before .before .before .before .before .before .if3 .left)) (passes 26 (lt-leb _ _ (c .before .before .before .before .before .before .before .before .if4 .left)) (passes 28 (ap not (sym (c .before .before .before .before .before .both-known .ensures ∙ ap₂ (bothKnown (c .before .before .before .before .before .before .before .before .before .before .before .before .before .args .keys .now) (c .before .before .before .before .before .before .before .before .before .before .before .before .before .args .n)) (c .before .before .before .before .before .before .before .station-of .ensures) (c .before .before .before .before .before .before .station-of2 .ensures))) ∙ c .before .before .before .before .if5 .left) (passes 29 (sym (c .before .before .before .same-station .ensures ∙ ap₂ sameStation (c .before .before .before .before .before .before .before .station-of .ensures) (c .before .before .before .before .before .before .station-of2 .ensures)) ∙ c .before .before .if6 .left) (stops 30 _ (sym (c .before .either-used .ensures) ∙ c .if7 .taken)))))))
+returns-7 c = passes 24 (ap not (sym (c .before .before .before .before .before .before .before .before .before .before .before .before .link-in-range .ensures)) ∙ c .before .before .before .before .before .before .before .before .before .before .before .if1 .left) (passes 25 (c .before .before .before .before .before .before .before .before .before .before .if2 .left) (passes 26 (le-ltb _ _ (c .before .before .before .before .before .before .before .before .before .if3 .left)) (passes 26 (lt-leb _ _ (c .before .before .before .before .before .before .before .before .if4 .left)) (passes 28 (ap not (sym (c .before .before .before .before .before .both-known .ensures ∙ ap₂ (λ (x y : Station). known (c .before .before .before .before .before .before .before .before .before .before .before .before .before .args .keys .now) (c .before .before .before .before .before .before .before .before .before .before .before .before .before .args .n) x && known (c .before .before .before .before .before .before .before .before .before .before .before .before .before .args .keys .now) (c .before .before .before .before .before .before .before .before .before .before .before .before .before .args .n) y) (c .before .before .before .before .before .before .before .station-of .ensures) (c .before .before .before .before .before .before .station-of2 .ensures))) ∙ c .before .before .before .before .if5 .left) (passes 29 (sym (c .before .before .before .same-station .ensures ∙ ap₂ sameStation (c .before .before .before .before .before .before .before .station-of .ensures) (c .before .before .before .before .before .before .station-of2 .ensures)) ∙ c .before .before .if6 .left) (stops 30 _ (sym (c .before .either-used .ensures) ∙ c .if7 .taken)))))))
 
 returns-8 : tie.Need-returns-8
 unfolding linkByKeys linkBy
-returns-8 c = passes 24 (ap not (sym (c .before .before .before .before .before .before .before .before .before .before .before .before .link-in-range .ensures)) ∙ c .before .before .before .before .before .before .before .before .before .before .before .if1 .left) (passes 25 (c .before .before .before .before .before .before .before .before .before .before .if2 .left) (passes 26 (le-ltb _ _ (c .before .before .before .before .before .before .before .before .before .if3 .left)) (passes 26 (lt-leb _ _ (c .before .before .before .before .before .before .before .before .if4 .left)) (passes 28 (ap not (sym (c .before .before .before .before .before .both-known .ensures ∙ ap₂ (bothKnown (c .before .before .before .before .before .before .before .before .before .before .before .before .before .args .keys .now) (c .before .before .before .before .before .before .before .before .before .before .before .before .before .args .n)) (c .before .before .before .before .before .before .before .station-of .ensures) (c .before .before .before .before .before .before .station-of2 .ensures))) ∙ c .before .before .before .before .if5 .left) (passes 29 (sym (c .before .before .before .same-station .ensures ∙ ap₂ sameStation (c .before .before .before .before .before .before .before .station-of .ensures) (c .before .before .before .before .before .before .station-of2 .ensures)) ∙ c .before .before .if6 .left) (passes 30 (sym (c .before .either-used .ensures) ∙ c .if7 .left) refl))))))
+returns-8 c = passes 24 (ap not (sym (c .before .before .before .before .before .before .before .before .before .before .before .before .link-in-range .ensures)) ∙ c .before .before .before .before .before .before .before .before .before .before .before .if1 .left) (passes 25 (c .before .before .before .before .before .before .before .before .before .before .if2 .left) (passes 26 (le-ltb _ _ (c .before .before .before .before .before .before .before .before .before .if3 .left)) (passes 26 (lt-leb _ _ (c .before .before .before .before .before .before .before .before .if4 .left)) (passes 28 (ap not (sym (c .before .before .before .before .before .both-known .ensures ∙ ap₂ (λ (x y : Station). known (c .before .before .before .before .before .before .before .before .before .before .before .before .before .args .keys .now) (c .before .before .before .before .before .before .before .before .before .before .before .before .before .args .n) x && known (c .before .before .before .before .before .before .before .before .before .before .before .before .before .args .keys .now) (c .before .before .before .before .before .before .before .before .before .before .before .before .before .args .n) y) (c .before .before .before .before .before .before .before .station-of .ensures) (c .before .before .before .before .before .before .station-of2 .ensures))) ∙ c .before .before .before .before .if5 .left) (passes 29 (sym (c .before .before .before .same-station .ensures ∙ ap₂ sameStation (c .before .before .before .before .before .before .before .station-of .ensures) (c .before .before .before .before .before .before .station-of2 .ensures)) ∙ c .before .before .if6 .left) (passes 30 (sym (c .before .either-used .ensures) ∙ c .if7 .left) refl))))))
 
 pub link-number-spec : {M : Type 1} → statement M
 link-number-spec =
