@@ -17,7 +17,7 @@ use Rattle.chart.specs.Numbers.{nodeBy, linkBy, questionBy, nodeNumber, linkNum
 use Rattle.chart.specs.Sample.{S, bytesS}
 use Rattle.chart_read.specs.Fields.{bytesFrom, nodeIn, linkIn}
 use Rattle.chart_read.specs.Reading.{nothing, withNode, withLink, withQuestion, withBody, nodeLate, refusing, nodeBodyNumber, linkBodyNumber, questionBodyNumber, bodyNumber, fieldNumber, walk, chartReadOf}
-use Rattle.chart_write.specs.Numbers.{nodeNumberAt, linkNumberAt, valuesNumber, chartNumber}
+use Rattle.chart_numbers.specs.Numbers.{nodeNumberAt, linkNumberAt, valuesNumber, chartNumber}
 use Rattle.routes.specs.Route.{also, only}
 use Rattle.routes.specs.All.{upFrom, linksFrom, over, tries, routes, unmet, allFrom, allRoutes, firstOf, sameLinks, nextOf}
 use Rattle.search.specs.Answers.{answerNumber, answerRoute, told, firstRefusal, nextRefusal}

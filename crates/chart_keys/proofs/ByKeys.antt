@@ -5,7 +5,7 @@ use mathlib.Core.List.{List}
 use mathlib.Core.Bool.{Bool, true, false, _&&_, _||_}
 use native.Mathlib.Omega.{arith}
 use lib.ListN.{length, getD, set}
-use lib.Seq.{getD-set-same, getD-set-other}
+use lib.Seq.{getD-set-same, getD-set-other, ext-getD}
 use lib.Dec.{eqb}
 use borrow.Author.Tests.{eqb-true, eqb-false, eq-eqb}
 use Rattle.lists.specs.Places.{anyBelow, elementAt}
@@ -166,6 +166,11 @@ keyed-more P keys c k hk e h i l = by (eqb i c) refl
     by false q =
         let n : i ≡ c → ⊥ = eqb-false i c q in
         subst (P i) (sym (getD-set-other keys c i k 0 n)) (h i (omega arith))
+
+-- two rows of keys that are both those of the nodes are one row
+pub keys-one : (ns : Nodes) (k l : List ℕ) → KeysOf ns k → KeysOf ns l → k ≡ l
+keys-one ns k l p q =
+    ext-getD 0 k l (p .long ∙ sym (q .long)) (λ i h. p .keyed i (omega (arith, p .long)) .key ∙ sym (q .keyed i (omega (arith, p .long)) .key))
 
 -- the keys of all places are those of the nodes
 pub keyed-of : (ns : Nodes) (keys : List ℕ) → ns .count ≤ 16 → KeysOf ns keys → KeyedNodes ns keys

@@ -15,7 +15,7 @@ use Rattle.chart.specs.declared.Nodes.{Nodes}
 use Rattle.chart.specs.Values.{nodeAt, standsAt, written}
 use Rattle.chart_keys.specs.Keys.{StationKeyed, KeysOf, keyIs}
 use Rattle.chart_keys.proofs.ByKeys.{keyed-of, stands-keyed}
-use Rattle.chart_write.specs.Numbers.{nodesBefore}
+use Rattle.chart_numbers.specs.Numbers.{nodesBefore}
 use Rattle.chart_net.specs.Net.{placeIn}
 use Rattle.chart_net.specs.Arrays.{placeFor}
 

@@ -8,9 +8,9 @@ use Rattle.chart.specs.declared.Nodes.{Nodes}
 use Rattle.chart.specs.declared.Chart.{Chart}
 use Rattle.chart.specs.Values.{linkAt, written}
 use Rattle.chart.proofs.Laws.{question-passed}
-use Rattle.chart_write.specs.Numbers.{chartNumber}
+use Rattle.chart_numbers.specs.Numbers.{chartNumber}
 use Rattle.chart_write.specs.Promises.{Accepted}
-use Rattle.chart_write.proofs.Laws.{passed, node-of, link-of}
+use Rattle.chart_numbers.proofs.Laws.{passed, node-of, link-of}
 
 pub both-of : (ns : Nodes) (s t : Station) → (written ns s && written ns t) ≡ true → (written ns s ≡ true) × (written ns t ≡ true)
 both-of ns s t h = (and-left (written ns s) (written ns t) h, and-right (written ns s) (written ns t) h)

@@ -19,7 +19,7 @@ use Rattle.chart_read.specs.declared.ChartRead.{ChartRead}
 use Rattle.chart_read.specs.Fields.{tagAt, bodyAt, pastField, cutShort, nodeIn, linkIn}
 use Rattle.chart_read.specs.Reading.{SoFar, nothing, nodeLate, refusing, nodeBodyNumber, linkBodyNumber, questionBodyNumber, bodyNumber, fieldNumber, refusedAt, atEnd, onward, walk, chartReadOf}
 use Rattle.chart_read.proofs.Walking.{heldPast}
-use Rattle.chart_write.specs.Numbers.{nodesBefore, linksBefore, nodeNumberAt, linkNumberAt, valuesNumber, chartNumber}
+use Rattle.chart_numbers.specs.Numbers.{nodesBefore, linksBefore, nodeNumberAt, linkNumberAt, valuesNumber, chartNumber}
 use Rattle.chart_write.specs.Writing.{chartBytes, chartRefusal}
 use Rattle.chart_write.specs.Promises.{chartReaderNumbers, chartWriterNumbers}
 

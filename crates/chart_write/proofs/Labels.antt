@@ -16,7 +16,7 @@ use Rattle.chart.specs.declared.Links.{Links}
 use Rattle.chart.specs.declared.Chart.{Chart}
 use Rattle.chart.specs.Values.{noNode, nodeAt, linkAt, nodeInRange}
 use Rattle.chart.specs.Numbers.{nodeNumber}
-use Rattle.chart_write.specs.Numbers.{nodesBefore, linksBefore, nodeNumberAt, linkNumberAt, valuesNumber, chartNumber}
+use Rattle.chart_numbers.specs.Numbers.{nodesBefore, linksBefore, nodeNumberAt, linkNumberAt, valuesNumber, chartNumber}
 use Rattle.chart_write.specs.Promises.{unlabelledAt, unlabelled, LabelsInRange, LabelsAreInk}
 use Rattle.chart_write.proofs.Agree.{SameNodes, node-agree, link-agree, question-agree, node-like}
 

@@ -14,10 +14,11 @@ use Rattle.lists.proofs.Writing.{wrote-size, wrote-taken}
 use Rattle.chart.specs.declared.Chart.{Chart}
 use Rattle.chart.specs.Values.{nodeAt}
 use Rattle.chart_read.specs.Reading.{chartReadOf}
-use Rattle.chart_write.specs.Numbers.{valuesNumber, chartNumber}
+use Rattle.chart_numbers.specs.Numbers.{valuesNumber, chartNumber}
 use Rattle.chart_write.specs.Writing.{nodeField, chartBytes, chartRefusal, chartWriteOf, chartAfter, tidy}
 use Rattle.chart_write.specs.Promises.{ReadUndoesWrite, WriteUndoesRead, SameNumber}
-use Rattle.chart_write.proofs.Laws.{length-node, length-chart, passed, node-of, refusal-none}
+use Rattle.chart_numbers.proofs.Laws.{passed, node-of}
+use Rattle.chart_write.proofs.Laws.{length-node, length-chart, refusal-none}
 use Rattle.chart_write.proofs.ReadWhole.{read-written}
 use Rattle.chart_write.proofs.WriteBack.{read-good}
 

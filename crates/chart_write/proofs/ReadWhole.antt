@@ -20,7 +20,7 @@ use Rattle.chart.specs.Numbers.{questionNumber}
 use Rattle.chart_read.specs.declared.ChartRead.{ChartRead}
 use Rattle.chart_read.specs.Reading.{SoFar, nothing, withNode, withLink, withQuestion, withBody, nodeLate, refusing, bodyNumber, refusedAt, chartReadOf}
 use Rattle.chart_read.proofs.Walking.{Reaches, reach-start, reach-end}
-use Rattle.chart_write.specs.Numbers.{nodesBefore, linksBefore, nodeNumberAt, linkNumberAt, valuesNumber}
+use Rattle.chart_numbers.specs.Numbers.{nodesBefore, linksBefore, nodeNumberAt, linkNumberAt, valuesNumber}
 use Rattle.chart_write.specs.Writing.{nodeBody, linkBody, questionBody, nodeField, linkField, questionField, chartBytes, tidyNode, tidyAt, tidy}
 use Rattle.chart_write.proofs.Agree.{SameNodes, SameLinks, node-agree, link-agree, question-agree}
 use Rattle.chart_write.proofs.ReadBack.{node-back, link-back, question-back, node-number-back, link-number-back, question-number-back, run-reaches, run-refused}

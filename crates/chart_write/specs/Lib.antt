@@ -1,4 +1,3 @@
-pub mod Numbers
 pub mod Writing
 pub mod Storing
 pub mod Promises

@@ -13,7 +13,7 @@ use Rattle.chart.specs.declared.Links.{Links}
 use Rattle.chart.specs.declared.Chart.{Chart}
 use Rattle.chart.specs.Values.{mostNodes, mostLinks, longestLabel, noNode, nodeAt, linkAt, strayByte, written}
 use Rattle.chart_read.specs.Reading.{chartReadOf}
-use Rattle.chart_write.specs.Numbers.{nodesBefore, chartNumber}
+use Rattle.chart_numbers.specs.Numbers.{nodesBefore, chartNumber}
 use Rattle.chart_write.specs.Writing.{chartBytes, chartWriteOf, chartAfter, tidy}
 
 -- the longest chart: 16 nodes of 30 bytes, 48 links of 12, a question of 9

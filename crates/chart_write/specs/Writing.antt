@@ -16,7 +16,7 @@ use Rattle.chart.specs.declared.Nodes.{Nodes}
 use Rattle.chart.specs.declared.Chart.{Chart}
 use Rattle.chart.specs.Values.{mostNodes, mostLinks, longestLabel, noNode, noLink, nodeAt, linkAt}
 use Rattle.chart_read.specs.Fields.{nodeTag, linkTag, questionTag, tagged}
-use Rattle.chart_write.specs.Numbers.{chartNumber}
+use Rattle.chart_numbers.specs.Numbers.{chartNumber}
 
 -- a node's body: its station, and as many bytes of label as it says
 unfoldable pub nodeBody : ChartNode → List ℕ

@@ -1,5 +1,6 @@
 // The chart's writer (document 01, "The chart"): a chart given as values is refused by number, or its bytes are put into a lent buffer.
 use chart::Chart;
+use chart_numbers::chart_number;
 use lists::Written;
 use storing::chart_size;
 use storing::put_chart;
@@ -10,10 +11,7 @@ ghost use Rattle.lists.specs.Writing.{writeNumber, writeCount};
 ghost use Rattle.chart_write.specs.Writing.{chartBytes, chartRefusal, chartWriteOf, chartAfter};
 
 mod bytes;
-mod numbers;
 mod storing;
-
-pub use numbers::chart_number;
 
 // Writes a chart into out, and gives the number of bytes written, or the refusal. What is unused is not looked at.
 pub fn write_chart(c: Chart, out: &mut [u8]) -> Written

@@ -12,7 +12,7 @@ ghost use lib.ListN.{length};
 ghost use lib.Seq.{sets};
 ghost use Rattle.lists.specs.Places.{elementAt, firsts, joined};
 ghost use Rattle.chart.specs.Values.{nodeAt, linkAt};
-ghost use Rattle.chart_write.specs.Numbers.{chartNumber};
+ghost use Rattle.chart_numbers.specs.Numbers.{chartNumber};
 ghost use Rattle.chart_write.specs.Writing.{nodeField, linkField, chartBytes};
 ghost use Rattle.chart_write.specs.Storing.{Short};
 

@@ -18,7 +18,7 @@ use Rattle.lists.proofs.Places.{joined-next}
 use Rattle.chart.specs.declared.Chart.{Chart}
 use Rattle.chart_read.specs.declared.ChartRead.{ChartRead}
 use Rattle.chart_read.specs.Reading.{chartReadOf}
-use Rattle.chart_write.specs.Numbers.{chartNumber}
+use Rattle.chart_numbers.specs.Numbers.{chartNumber}
 use Rattle.chart_write.specs.Promises.{Accepted}
 use Rattle.chart_write.proofs.Accepted.{accepted}
 use Rattle.chart_write.proofs.Promises.{write-undoes-read}

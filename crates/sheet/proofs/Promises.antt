@@ -22,8 +22,8 @@ use Rattle.chart.specs.Values.{nodeAt, linkAt, strayByte, nodeInRange, endInRan
 use Rattle.chart.proofs.Laws.{question-passed}
 use Rattle.chart_read.specs.declared.ChartRead.{ChartRead}
 use Rattle.chart_read.specs.Reading.{chartReadOf}
-use Rattle.chart_write.specs.Numbers.{chartNumber}
-use Rattle.chart_write.proofs.Laws.{Passed, passed, node-of, link-of}
+use Rattle.chart_numbers.specs.Numbers.{chartNumber}
+use Rattle.chart_numbers.proofs.Laws.{Passed, passed, node-of, link-of}
 use Rattle.chart_write.proofs.Accepted.{accepted}
 use Rattle.routes.specs.Route.{only}
 use Rattle.routes.specs.All.{allRoutes}

@@ -22,7 +22,7 @@ ghost use Rattle.lists.specs.Places.{joined};
 ghost use Rattle.lists.specs.Refusals.{unlessRefused};
 ghost use Rattle.lists.specs.Writing.{writeNumber, writeCount};
 ghost use Rattle.chart.specs.Values.{nodeAt, linkAt};
-ghost use Rattle.chart_write.specs.Numbers.{chartNumber};
+ghost use Rattle.chart_numbers.specs.Numbers.{chartNumber};
 ghost use Rattle.chart_net.specs.Net.{routesOf};
 ghost use Rattle.text.specs.Laying.{Laid};
 ghost use Rattle.sheet_lines.specs.Lines.{nodeLine, linkLine};

@@ -4,7 +4,7 @@ use mathlib.Core.Path.{_≡_, refl}
 use mathlib.Core.List.{List}
 use native.Mathlib.Omega.{arith}
 use Rattle.chart.specs.declared.Chart.{Chart}
-use Rattle.chart_write.specs.Numbers.{chartNumber}
+use Rattle.chart_numbers.specs.Numbers.{chartNumber}
 use Rattle.chart_write.specs.Promises.{Accepted}
 use Rattle.chart_write.proofs.Accepted.{accepted}
 use Rattle.search.specs.Answers.{Told, firstRoute, nextRoute, placesNumber, routesIn, firstRefusalIn, nextRefusalIn, firstIn, nextIn}

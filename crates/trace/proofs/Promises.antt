@@ -11,7 +11,7 @@ use borrow.Author.Tests.{ltb-true, ltb-false}
 use Rattle.lists.specs.Refusals.{unlessRefused}
 use Rattle.lists.proofs.Stores.{taken-front}
 use Rattle.chart.specs.declared.Chart.{Chart}
-use Rattle.chart_write.specs.Numbers.{chartNumber}
+use Rattle.chart_numbers.specs.Numbers.{chartNumber}
 use Rattle.chart_write.proofs.Accepted.{accepted}
 use Rattle.routes.specs.Route.{only}
 use Rattle.routes.specs.All.{allRoutes, Answer, route, firstOf, nextOf}

@@ -6,7 +6,7 @@ use mathlib.Core.Logic.{_↔_}
 use mathlib.Core.List.{List, [], _∷_, List·Memᴰ}
 use lib.ListN.{length, take}
 use Rattle.chart.specs.declared.Chart.{Chart}
-use Rattle.chart_write.specs.Numbers.{chartNumber}
+use Rattle.chart_numbers.specs.Numbers.{chartNumber}
 use Rattle.routes.specs.Route.{Increasing, NoneTwice}
 use Rattle.search.specs.declared.Traced.the-variants.{Route, Refused}
 use Rattle.search.specs.Net.{longestRoute}

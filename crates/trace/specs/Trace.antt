@@ -3,7 +3,7 @@ use Prim.Native.Nat.{ℕ}
 use mathlib.Core.List.{List}
 use Rattle.lists.specs.Refusals.{orElse}
 use Rattle.chart.specs.declared.Chart.{Chart}
-use Rattle.chart_write.specs.Numbers.{chartNumber}
+use Rattle.chart_numbers.specs.Numbers.{chartNumber}
 use Rattle.search.specs.Answers.{Told, told, firstIn, nextIn, firstRefusal, nextRefusal, firstRoute, nextRoute}
 use Rattle.chart_net.specs.Net.{routesOf}
 use Rattle.chart_net.specs.Arrays.{placeFor, endsFor, waysFor}

@@ -3,7 +3,7 @@ use chart::Chart;
 use chart_net::ends_of;
 use chart_net::place_of;
 use chart_net::ways_of;
-use chart_write::chart_number;
+use chart_numbers::chart_number;
 use search::Traced;
 use search::first_route;
 use search::next_route;

@@ -12,7 +12,7 @@ use Rattle.chart_read.specs.Reading.{chartReadOf}
 use Rattle.search.specs.declared.Traced.{Traced}
 use Rattle.search.specs.declared.Traced.the-variants.{Refused}
 use Rattle.search.specs.Answers.{Told}
-use Rattle.chart_write.specs.Numbers.{chartNumber}
+use Rattle.chart_numbers.specs.Numbers.{chartNumber}
 use Rattle.chart_write.proofs.Promises.{write-undoes-read}
 use Rattle.trace.specs.Trace.{traceFirst, traceNext, keptFirst, keptNext}
 use Rattle.trace.proofs.Laws.{first-kept, next-kept}

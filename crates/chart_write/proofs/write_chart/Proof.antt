@@ -1,7 +1,8 @@
 -- `chart_write::write_chart` meets its contract: a refusal leaves the buffer, else the chart's bytes are stored from its start on.
 use mathlib.Core.Path.{sym, ap, _∙_}
 use Rattle.lists.specs.declared.Written.the-variants.{Wrote}
-use Rattle.chart_write.proofs.Laws.{passed, write-told, write-refused, write-short, write-wrote}
+use Rattle.chart_numbers.proofs.Laws.{passed}
+use Rattle.chart_write.proofs.Laws.{write-told, write-refused, write-short, write-wrote}
 use borrow.Author.Needs.{needs}
 use native.Mathlib.Omega.{arith}
 use Rattle.chart_write.proofs.write_chart.Statement.{statement}

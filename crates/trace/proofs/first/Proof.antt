@@ -1,7 +1,7 @@
 -- `trace::first` meets its contract: the chart's own number first; of an accepted chart the search goes over what is kept, which has its routes.
 use mathlib.Core.Path.{_≡_, sym, ap, _∙_}
 use borrow.Author.Needs.{needs}
-use Rattle.chart_write.specs.Numbers.{chartNumber}
+use Rattle.chart_numbers.specs.Numbers.{chartNumber}
 use Rattle.search.specs.Answers.{Told, firstRoute}
 use Rattle.search.proofs.Telling.{carried}
 use Rattle.chart_net.specs.Net.{routesOf}

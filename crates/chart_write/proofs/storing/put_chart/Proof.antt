@@ -1,5 +1,6 @@
 -- `chart_write::storing::put_chart` meets its contract: nodes, links and question, each after the last.
-use Rattle.chart_write.proofs.Laws.{passed, short, chart-put}
+use Rattle.chart_numbers.proofs.Laws.{passed}
+use Rattle.chart_write.proofs.Laws.{short, chart-put}
 use borrow.Author.Needs.{needs}
 use Rattle.chart_write.proofs.storing.put_chart.Statement.{statement}
 use Rattle.chart_write.proofs.storing.put_chart.Tie as tie

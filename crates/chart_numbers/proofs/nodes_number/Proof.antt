@@ -1,4 +1,4 @@
--- `chart_write::numbers::nodes_number` meets its contract. The loop's invariant: no node before i has a number.
+-- `chart_numbers::nodes_number` meets its contract. The loop's invariant: no node before i has a number.
 use Prim.Native.Nat.{_≤_, _-_}
 use mathlib.Core.Path.{_≡_, sym, _∙_}
 use native.Mathlib.Omega.{arith}
@@ -6,10 +6,10 @@ use lib.ListN.{length, length-map}
 use borrow.Author.Needs.{needs}
 use Rattle.lists.specs.Chains.{firstNumber}
 use Rattle.lists.proofs.Chains.{number-none, number-more, number-found}
-use Rattle.chart_write.specs.Numbers.{nodeNumberAt}
-use Rattle.chart_write.proofs.Laws.{node-number-read}
-use Rattle.chart_write.proofs.numbers.nodes_number.Statement.{statement}
-use Rattle.chart_write.proofs.numbers.nodes_number.Tie as tie
+use Rattle.chart_numbers.specs.Numbers.{nodeNumberAt}
+use Rattle.chart_numbers.proofs.Laws.{node-number-read}
+use Rattle.chart_numbers.proofs.nodes_number.Statement.{statement}
+use Rattle.chart_numbers.proofs.nodes_number.Tie as tie
 
 abbrev Inv-loop : tie.InvT-loop
 Inv-loop keys nodes n i₀ i = (i ≤ nodes .count) × (firstNumber (nodeNumberAt nodes) i ≡ 0)

@@ -1,4 +1,4 @@
-// The number of a chart given as values. Nodes and ends are compared by their keys.
+// The number of a chart given as values (document 01, "The chart"). Nodes and ends are compared by their keys.
 use chart::Chart;
 use chart::Links;
 use chart::MOST_LINKS;
@@ -10,7 +10,7 @@ ghost use Prim.Native.Nat.{_≤_};
 ghost use lib.ListN.{length};
 ghost use Rattle.lists.specs.Chains.{firstNumber};
 ghost use Rattle.chart_keys.specs.Keys.{KeyedNodes, KeyedLinks};
-ghost use Rattle.chart_write.specs.Numbers.{nodeNumberAt, linkNumberAt, chartNumber};
+ghost use Rattle.chart_numbers.specs.Numbers.{nodeNumberAt, linkNumberAt, chartNumber};
 
 // The keys of the links' first ends, and of their second ends.
 fn link_keys(links: Links, near: &mut [u32; 48], far: &mut [u32; 48])

@@ -1,4 +1,4 @@
--- `chart_write::numbers::link_keys` meets its contract. The loop's invariant: the keys of the links before i are there.
+-- `chart_numbers::link_keys` meets its contract. The loop's invariant: the keys of the links before i are there.
 use Prim.Native.Nat.{ℕ, _+_, _-_, _≤_, _<_}
 use mathlib.Core.Path.{_≡_, subst, _∙_}
 use native.Mathlib.Omega.{arith}
@@ -9,9 +9,9 @@ use Rattle.chart.specs.Values.{linkAt}
 use Rattle.chart.proofs.Laws.{link-read}
 use Rattle.chart_keys.specs.Keys.{EndKeyed, KeyedLinks}
 use Rattle.chart_keys.proofs.ByKeys.{keyed-more}
-use Rattle.chart_write.specs.Numbers.{linksBefore}
-use Rattle.chart_write.proofs.numbers.link_keys.Statement.{statement}
-use Rattle.chart_write.proofs.numbers.link_keys.Tie as tie
+use Rattle.chart_numbers.specs.Numbers.{linksBefore}
+use Rattle.chart_numbers.proofs.link_keys.Statement.{statement}
+use Rattle.chart_numbers.proofs.link_keys.Tie as tie
 
 abbrev Inv-loop : tie.InvT-loop
 Inv-loop near₀ far₀ links n i₀ near far i = (i ≤ n) × (length near ≡ 48) × (length far ≡ 48) × KeyedLinks (linksBefore links i) near far

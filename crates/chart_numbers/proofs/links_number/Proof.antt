@@ -1,4 +1,4 @@
--- `chart_write::numbers::links_number` meets its contract. The loop's invariant: no link before i has a number.
+-- `chart_numbers::links_number` meets its contract. The loop's invariant: no link before i has a number.
 use Prim.Native.Nat.{_≤_, _-_}
 use mathlib.Core.Path.{_≡_, sym, _∙_}
 use native.Mathlib.Omega.{arith}
@@ -6,10 +6,10 @@ use lib.ListN.{length, length-map}
 use borrow.Author.Needs.{needs}
 use Rattle.lists.specs.Chains.{firstNumber}
 use Rattle.lists.proofs.Chains.{number-none, number-more, number-found}
-use Rattle.chart_write.specs.Numbers.{linkNumberAt}
-use Rattle.chart_write.proofs.Laws.{link-number-read}
-use Rattle.chart_write.proofs.numbers.links_number.Statement.{statement}
-use Rattle.chart_write.proofs.numbers.links_number.Tie as tie
+use Rattle.chart_numbers.specs.Numbers.{linkNumberAt}
+use Rattle.chart_numbers.proofs.Laws.{link-number-read}
+use Rattle.chart_numbers.proofs.links_number.Statement.{statement}
+use Rattle.chart_numbers.proofs.links_number.Tie as tie
 
 abbrev Inv-loop : tie.InvT-loop
 Inv-loop nodes keys near far links m i₀ i = (i ≤ links .count) × (firstNumber (linkNumberAt nodes links) i ≡ 0)

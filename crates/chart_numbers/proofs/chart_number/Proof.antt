@@ -1,4 +1,4 @@
--- `chart_write::numbers::chart_number` meets its contract: the counts decide, then the first bad value.
+-- `chart_numbers::chart_number` meets its contract: the counts decide, then the first bad value.
 use Prim.Native.Nat.{ℕ, _≤_}
 use mathlib.Core.Path.{_≡_, sym, _∙_}
 use native.Mathlib.Omega.{arith}
@@ -7,9 +7,9 @@ use borrow.Author.Needs.{needs}
 use Rattle.lists.proofs.Chains.{stops, passes, or-stops, or-passes}
 use Rattle.chart_keys.specs.Keys.{KeyedNodes}
 use Rattle.chart_keys.proofs.ByKeys.{keyed-of, question-keyed}
-use Rattle.chart_write.specs.Numbers.{valuesNumber, chartNumber}
-use Rattle.chart_write.proofs.numbers.chart_number.Statement.{statement}
-use Rattle.chart_write.proofs.numbers.chart_number.Tie as tie
+use Rattle.chart_numbers.specs.Numbers.{valuesNumber, chartNumber}
+use Rattle.chart_numbers.proofs.chart_number.Statement.{statement}
+use Rattle.chart_numbers.proofs.chart_number.Tie as tie
 
 -- the question's node numbers have two bytes
 from-fits : (s : tie.Start) → s .args .c .from .node .0 ≤ 65535
