@@ -1,0 +1,51 @@
+-- The theorem that a refusal changes no byte that was lent: untouched.
+use Prim.Native.Nat.{ℕ, zero, suc}
+use mathlib.Core.Path.{_≡_, refl}
+use mathlib.Core.List.{List}
+use Rattle.lists.specs.Refusals.{unlessRefused}
+use Rattle.lists.proofs.Refusals.{refused}
+use Rattle.ledger_image.specs.Ledger.{ledgerAfter}
+use Rattle.search.specs.declared.Traced.{Traced}
+use Rattle.search.specs.declared.Traced.the-variants.{Route, Refused}
+use Rattle.search.specs.Answers.{Told, told}
+use Rattle.search.proofs.Leading.{never}
+use Rattle.trace.specs.Trace.{traceFirst, traceNext}
+use Rattle.read_door.specs.Image.{imageAfter as frameImage}
+use Rattle.write_door.specs.Image.{frameAfter}
+use Rattle.ledger_door.specs.Calls.{acceptImage, answerImage, tickImage, clearImage}
+use Rattle.chart_read_door.specs.Image.{imageAfter as chartImage}
+use Rattle.chart_write_door.specs.Image.{chartAfterFor}
+use Rattle.trace_door.specs.Routes.{ifRead, firstFor, nextFor}
+use Rattle.sheet.specs.Sheet.{sheetAfter}
+use Rattle.door_laws.specs.Promises.{Untouched}
+
+-- what is told beside a refusal has the buffer's own bytes
+abbrev Kept : List ℕ → Told → Type 0
+Kept buf t = (k : ℕ) → t .answer ≡ Refused k → t .bytes ≡ buf
+
+told-kept : (number : ℕ) (r buf : List ℕ) → Kept buf (told number r buf)
+unfolding told unlessRefused
+told-kept zero r buf k e = never (cc)
+told-kept (suc n) r buf k e = refl
+
+read-kept : (number : ℕ) (buf : List ℕ) (t : Told) → Kept buf t → Kept buf (unlessRefused number t (record { answer = Refused number; bytes = buf }))
+unfolding unlessRefused
+read-kept zero buf t h k e = h k e
+read-kept (suc n) buf t h k e = refl
+
+pub untouched : Untouched
+unfolding frameImage frameAfter acceptImage answerImage tickImage clearImage ledgerAfter chartImage chartAfterFor ifRead firstFor nextFor traceFirst traceNext sheetAfter
+untouched =
+    record {
+      read = λ f b h. refused _ _ _ h;
+      write = λ b l out h. refused _ _ _ h;
+      accept = λ b f arrival table ticks h. refused _ _ _ h;
+      answer = λ b by to seq reply h. refused _ _ _ h;
+      tick = λ b h. refused _ _ _ h;
+      clear = λ b place h. refused _ _ _ h;
+      chart-read = λ bytes b h. refused _ _ _ h;
+      chart-write = λ b out h. refused _ _ _ h;
+      first = λ bytes buf. read-kept _ buf _ (told-kept _ _ buf);
+      next = λ bytes buf n. read-kept _ buf _ (told-kept _ _ buf);
+      sheet = λ bytes out h. refused _ _ _ h;
+    }
