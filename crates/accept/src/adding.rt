@@ -68,7 +68,7 @@ pub fn with_legs(
     let mut m = l;
     let mut i: u8 = 0;
     while i < n {
-        let d = envelope::destination(part, i);
+        let d = packing::unpack(part, 3 * (i as usize));
         let g = leg_for(e, arrival, table, ticks, d);
         let k = base + i as usize;
         m.legs[k] = g;

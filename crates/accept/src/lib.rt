@@ -4,6 +4,7 @@ use address::Port;
 use envelope_read::Read;
 use ledger::Ledger;
 use refusing::call_refusal;
+use refusing::frame_number;
 use route::Table;
 ghost use mathlib.Core.Path.{_≡_};
 ghost use Rattle.accept.specs.Accept.{acceptOf};
@@ -24,7 +25,7 @@ pub fn accept(l: Ledger, frame: &[u8], arrival: Port, table: Table, ticks: u16) 
 {
     let answer = envelope_read::read_frame(frame);
     let Read::Envelope(e) = answer else {
-        let number = envelope_read::read_number(answer);
+        let number = frame_number(answer);
         return Accepted {
             number,
             added: 0,

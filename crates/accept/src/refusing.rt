@@ -1,9 +1,10 @@
-// The refusals of a call whose frame was accepted: 50, 51, 60 to 63.
+// The refusals of a call: the frame's own, and where it was accepted 50, 51, 60 to 63.
 use address::Address;
 use address::LARGEST_PORT;
 use address::Port;
 use address::Seq;
 use envelope::Fixed;
+use envelope_read::Read;
 use ledger::Ledger;
 use ledger::Leg;
 use ledger::MOST_LEGS;
@@ -12,7 +13,18 @@ ghost use mathlib.Core.Path.{_≡_};
 ghost use mathlib.Core.Bool.{false};
 ghost use Prim.Native.Nat.{_≤_};
 ghost use Rattle.lists.specs.Places.{anyBelow};
+ghost use Rattle.envelope_read.specs.Read.{readNumber};
 ghost use Rattle.accept.specs.Accept.{openFrom, openFromAt, legsRefusal, callRefusal};
+
+// The number of a frame's answer: 0 beside an envelope.
+pub fn frame_number(answer: Read) -> u8
+    ensures { λ r. ⌜ r ≡ readNumber answer ⌝ }
+{
+    match answer {
+        Read::Envelope(_) => 0,
+        Read::Refused(number) => number,
+    }
+}
 
 // Whether the leg is open, and has this source and this sequence number.
 fn is_open_from(g: Leg, source: Address, seq: Seq) -> bool

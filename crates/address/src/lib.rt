@@ -45,38 +45,26 @@ pub fn station_of(a: Address) -> Station
 pub fn station_in_range(s: Station) -> bool
     ensures { λ r. ⌜ r ≡ stationInRange s ⌝ }
 {
-    if LARGEST_BRIGADE < s.brigade {
-        return false;
-    }
-    s.node.0 <= LARGEST_NODE
+    (s.brigade <= LARGEST_BRIGADE) & (s.node.0 <= LARGEST_NODE)
 }
 
 // Whether the node and the port are in range.
 pub fn in_range(a: Address) -> bool
     ensures { λ r. ⌜ r ≡ inRange a ⌝ }
 {
-    if !station_in_range(station_of(a)) {
-        return false;
-    }
-    a.port.0 <= LARGEST_PORT
+    station_in_range(station_of(a)) & (a.port.0 <= LARGEST_PORT)
 }
 
 // Whether two stations are one.
 pub fn same_station(s: Station, t: Station) -> bool
     ensures { λ r. ⌜ r ≡ sameStation s t ⌝ }
 {
-    if s.brigade != t.brigade {
-        return false;
-    }
-    s.node.0 == t.node.0
+    (s.brigade == t.brigade) & (s.node.0 == t.node.0)
 }
 
 // Whether two addresses are one.
 pub fn same_address(a: Address, b: Address) -> bool
     ensures { λ r. ⌜ r ≡ sameAddress a b ⌝ }
 {
-    if !same_station(station_of(a), station_of(b)) {
-        return false;
-    }
-    a.port.0 == b.port.0
+    same_station(station_of(a), station_of(b)) & (a.port.0 == b.port.0)
 }

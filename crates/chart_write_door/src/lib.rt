@@ -19,10 +19,11 @@ pub extern "C" fn pz_chart_write(image: &[u8], chart: &mut [u8], written: &mut u
         return 10;
     }
     let c = chart_in(image);
-    let answer = chart_write::write_chart(c, chart);
-    let Written::Wrote(n) = answer else {
-        return lists::write_number(answer);
-    };
-    *written = n as u16;
-    0
+    match chart_write::write_chart(c, chart) {
+        Written::Refused(number) => number,
+        Written::Wrote(n) => {
+            *written = n as u16;
+            0
+        }
+    }
 }

@@ -13,9 +13,7 @@ fn seen(keys: &[u32; 63], i: usize) -> bool
     let mut found = false;
     let mut j = 0;
     while j < i {
-        if key == keys[j] {
-            found = true;
-        }
+        found = found | (key == keys[j]);
         j += 1;
     }
     found

@@ -7,7 +7,6 @@ mod keys;
 mod refusing;
 
 pub use frame::check;
-pub use frame::destination;
 pub use refusing::LONGEST_CONTENTS;
 pub use refusing::LOWEST_PRIORITY;
 pub use refusing::MOST_DESTINATIONS;

@@ -18,7 +18,7 @@ pub const PAGE_OFFICER: u8 = 3;
 fn is_outside(top: u8, n: u8) -> bool
     ensures { λ r. ⌜ r ≡ outside top n ⌝ }
 {
-    if n == 0 { true } else { top < n }
+    (n == 0) | (top < n)
 }
 
 // Whether a message of a type has another version than its own (3.3.2).

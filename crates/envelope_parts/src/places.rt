@@ -28,7 +28,7 @@ pub fn read_places(part: &[u8], n: usize) -> [Address; 63]
     let mut places = no_places();
     let mut i = 0;
     while i < n {
-        let a = envelope::destination(part, i as u8);
+        let a = packing::unpack(part, 3 * i);
         places[i] = a;
         i += 1;
     }

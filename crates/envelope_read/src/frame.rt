@@ -61,7 +61,7 @@ pub fn keys_in(part: &[u8], n: usize) -> [u32; 63]
     let mut keys = [0u32; 63];
     let mut i = 0;
     while i < n {
-        keys[i] = packing::key(envelope::destination(part, i as u8));
+        keys[i] = packing::key(packing::unpack(part, 3 * i));
         i += 1;
     }
     keys

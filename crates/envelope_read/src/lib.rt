@@ -35,13 +35,3 @@ pub fn read_frame(frame: &[u8]) -> Read
     }
     Read::Envelope(e)
 }
-
-// Document 01's number of an answer: 0 beside an envelope.
-pub fn read_number(answer: Read) -> u8
-    ensures { λ r. ⌜ r ≡ readNumber answer ⌝ }
-{
-    match answer {
-        Read::Envelope(_) => 0,
-        Read::Refused(number) => number,
-    }
-}

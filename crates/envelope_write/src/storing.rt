@@ -38,8 +38,7 @@ fn mid_bytes(e: Fixed) -> [u8; 4]
     ensures { λ r. ⌜ r ≡ midOf e ⌝ }
 {
     let p = e.priority * 16 + e.version;
-    let s = e.seq.0;
-    let w = if e.ack { s * 2 + 1 } else { s * 2 };
+    let w = e.seq.0 * 2 + e.ack as u16;
     [p, (w / 256) as u8, (w % 256) as u8, e.kind]
 }
 

@@ -7,6 +7,7 @@ use address::Node;
 use address::Port;
 use address::Seq;
 use envelope::Fixed;
+use envelope_read::Read;
 use lists::Written;
 
 pub fn at(brigade: u16, node: u16, port: u16) -> Address {
@@ -80,7 +81,10 @@ pub fn write(v: &[u16; 64]) {
 
 // What a frame is read as: the number, how many destinations, how many bytes of contents.
 fn report(frame: &[u8]) {
-    let number = envelope_read::read_number(envelope_read::read_frame(frame));
+    let number = match envelope_read::read_frame(frame) {
+        Read::Envelope(_) => 0,
+        Read::Refused(k) => k,
+    };
     let to = envelope_parts::frame_destinations(frame);
     let contents = envelope_parts::frame_contents(frame);
     answered(number, to.count as u64, contents.len() as u64);

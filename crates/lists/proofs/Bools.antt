@@ -1,7 +1,19 @@
--- Conjunctions of tests, over plain Bools.
+-- Conjunctions of tests, over plain Bools, and a Bool as a number.
+use Prim.Native.Nat.{_≤_}
 use mathlib.Core.Path.{_≡_, refl, sym, _∙_}
 use borrow.Author.Tests.{not-true, not-false}
-use mathlib.Core.Bool.{Bool, true, false, not, _&&_, _||_, true≢false}
+use mathlib.Core.Bool.{Bool, true, false, not, cond, _&&_, _||_, true≢false}
+use mir.Val.{boolByte}
+use native.Mathlib.Omega.{arith}
+
+-- `b as u8`
+pub bool-byte : (b : Bool) → boolByte b ≡ cond b 1 0
+bool-byte true = refl
+bool-byte false = refl
+
+pub bool-small : (b : Bool) → boolByte b ≤ 1
+bool-small true = omega arith
+bool-small false = omega arith
 
 pub stop1 : {x : Bool} (y : Bool) → x ≡ false → false ≡ (x && y)
 stop1 y p = rw p

@@ -4,22 +4,11 @@ ghost use Prim.Native.Nat.{_+_, _*_, _≤_};
 ghost use lib.ListN.{length, getD};
 ghost use lib.Seq.{sets};
 ghost use Rattle.lists.specs.Bytes.{wordAt};
-ghost use Rattle.lists.specs.Writing.{writeNumber};
 
 // What a writer answers: the number of bytes written, or the refusal.
 pub enum Written {
     Wrote(usize),
     Refused(u8),
-}
-
-// Document 01's number of a writer's answer: 0 where something was written.
-pub fn write_number(answer: Written) -> u8
-    ensures { λ r. ⌜ r ≡ writeNumber answer ⌝ }
-{
-    match answer {
-        Written::Wrote(_) => 0,
-        Written::Refused(number) => number,
-    }
 }
 
 // The byte at a place.

@@ -13,13 +13,14 @@ ghost use Rattle.read_door.specs.Image.{fieldBytes, readNumberFor, image
 const ENVELOPE_SIZE: usize = 267;
 
 // The first 15 bytes of an image: the fixed fields, and where the contents begin.
-fn field_bytes(e: Fixed, at: u16) -> [u8; 15]
-    ensures { λ r. ⌜ r ≡ fieldBytes e at ⌝ }
+fn field_bytes(e: Fixed) -> [u8; 15]
+    ensures { λ r. ⌜ r ≡ fieldBytes e (9 + 3 * e .count) ⌝ }
 {
+    let at = 9 + 3 * (e.count as u16);
     let s = wide::address_bytes(e.source);
     let n = e.length;
     let q = e.seq.0;
-    let ack: u8 = if e.ack { 1 } else { 0 };
+    let ack = e.ack as u8;
     [
         s[0],
         s[1],
@@ -40,13 +41,14 @@ fn field_bytes(e: Fixed, at: u16) -> [u8; 15]
 }
 
 // The first n destinations of the part of a frame that begins with them, from byte 15 of an image on.
-fn put_destinations(image: &mut [u8], part: &[u8], n: u8)
+fn put_destinations(image: &mut [u8], part: &[u8], n: usize)
+    requires { ⌜ n ≤ 63 ⌝ }
     ensures { λ _. ⌜ now (image .exit) ≡ sets (now (image .entry)) 15 (joined addressBytes (destinationAt (now (part .entry))) n) ⌝ }
 {
-    let mut i: u8 = 0;
+    let mut i = 0;
     while i < n {
-        let b = wide::address_bytes(envelope::destination(part, i));
-        lists::put_all(image, 15 + 4 * (i as usize), &b);
+        let b = wide::address_bytes(packing::unpack(part, 3 * i));
+        lists::put_all(image, 15 + 4 * i, &b);
         i += 1;
     }
 }
@@ -68,17 +70,18 @@ fn put_zeros(image: &mut [u8], at: usize)
 pub extern "C" fn pz_read(frame: &[u8], image: &mut [u8]) -> u8
     ensures { λ r. ⌜ (r ≡ readNumberFor (now (frame .entry)) (length (now (image .entry)))) × (now (image .exit) ≡ imageAfter (now (frame .entry)) (now (image .entry))) ⌝ }
 {
-    let answer = envelope_read::read_frame(frame);
-    let Read::Envelope(e) = answer else {
-        return envelope_read::read_number(answer);
-    };
-    if image.len() < ENVELOPE_SIZE {
-        return 10;
+    match envelope_read::read_frame(frame) {
+        Read::Refused(number) => number,
+        Read::Envelope(e) => {
+            if image.len() < ENVELOPE_SIZE {
+                return 10;
+            }
+            let n = e.count as usize;
+            let b = field_bytes(e);
+            lists::put_all(image, 0, &b);
+            put_destinations(image, &frame[5..], n);
+            put_zeros(image, 15 + 4 * n);
+            0
+        }
     }
-    let n = e.count;
-    let b = field_bytes(e, 9 + 3 * (n as u16));
-    lists::put_all(image, 0, &b);
-    put_destinations(image, &frame[5..], n);
-    put_zeros(image, 15 + 4 * (n as usize));
-    0
 }

@@ -11,10 +11,11 @@ pub extern "C" fn pz_sheet(chart: &[u8], text: &mut [u8], written: &mut u32) -> 
     ensures { λ r. ⌜ (r ≡ sheetRefusal (now (chart .entry)) (length (now (text .entry)))) × (now (written .exit) ≡ unlessRefused (sheetRefusal (now (chart .entry)) (length (now (text .entry)))) (length (sheetText (now (chart .entry)))) 0) × (now (text .exit) ≡ sheetAfter (now (chart .entry)) (now (text .entry))) ⌝ }
 {
     *written = 0;
-    let answer = sheet::write_sheet(chart, text);
-    let Written::Wrote(n) = answer else {
-        return lists::write_number(answer);
-    };
-    *written = n as u32;
-    0
+    match sheet::write_sheet(chart, text) {
+        Written::Refused(number) => number,
+        Written::Wrote(n) => {
+            *written = n as u32;
+            0
+        }
+    }
 }

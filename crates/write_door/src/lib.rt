@@ -88,10 +88,11 @@ pub extern "C" fn pz_write(image: &[u8], contents: &[u8], frame: &mut [u8], writ
         return 4;
     }
     let places = places_in(image, e.count as usize);
-    let answer = envelope_write::write_frame(e, places, contents, frame);
-    let Written::Wrote(n) = answer else {
-        return lists::write_number(answer);
-    };
-    *written = n as u16;
-    0
+    match envelope_write::write_frame(e, places, contents, frame) {
+        Written::Refused(number) => number,
+        Written::Wrote(n) => {
+            *written = n as u16;
+            0
+        }
+    }
 }

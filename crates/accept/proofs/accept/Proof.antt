@@ -35,16 +35,16 @@ enum-known-answer c = search needs
 enum-told : tie.Need-enum-told
 enum-told c = search needs
 
-read-number-requires : tie.Need-read-number-requires
-read-number-requires c κs = search needs
+frame-number-requires : tie.Need-frame-number-requires
+frame-number-requires c κs = search needs
 
 returns : tie.Need-returns
 returns c =
     let f = c .before .before .before .before .before .args .frame .now in
     let r = read-refused f _ (sym (c .before .enum-told .given .1) ∙ c .before .before .before .read-frame .ensures .0) in
     accept-refused (c .before .before .before .before .before .args .l) f (c .before .before .before .before .before .args .arrival) (c .before .before .before .before .before .args .table) (c .before .before .before .before .before .args .ticks)
-    (c .read-number .ensures ∙ c .before .before .before .read-frame .ensures .1 .0 ∙ frame-number (c .before .before .before .before .before .args .l) f (c .before .before .before .before .before .args .arrival) (c .before .before .before .before .before .args .table) (c .before .before .before .before .before .args .ticks) (r .0))
-    (λ z. r .0 (sym (c .read-number .ensures ∙ c .before .before .before .read-frame .ensures .1 .0) ∙ z))
+    (c .frame-number .ensures ∙ c .before .before .before .read-frame .ensures .1 .0 ∙ frame-number (c .before .before .before .before .before .args .l) f (c .before .before .before .before .before .args .arrival) (c .before .before .before .before .before .args .table) (c .before .before .before .before .before .args .ticks) (r .0))
+    (λ z. r .0 (sym (c .frame-number .ensures ∙ c .before .before .before .read-frame .ensures .1 .0) ∙ z))
 
 call-refusal-requires : tie.Need-call-refusal-requires
 call-refusal-requires c κs = search needs
@@ -84,7 +84,7 @@ accept-spec =
     read-frame-requires
     enum-known-answer
     enum-told
-    read-number-requires
+    frame-number-requires
     returns
     call-refusal-requires
     returns-2

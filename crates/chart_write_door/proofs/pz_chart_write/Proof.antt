@@ -17,31 +17,28 @@ chart-in-requires c κs = search needs
 write-chart-requires : tie.Need-write-chart-requires
 write-chart-requires c κs = search needs
 
-enum-known-answer : tie.Need-enum-known-answer
-enum-known-answer c = search needs
+enum-known-number : tie.Need-enum-known-number
+enum-known-number c = search needs
 
-enum-told : tie.Need-enum-told
-enum-told c = search needs
+enum-known-n : tie.Need-enum-known-n
+enum-known-n c = search needs
 
-write-number-requires : tie.Need-write-number-requires
-write-number-requires c κs = search needs
+cast-written : tie.Need-cast-written
+cast-written c =
+    let s = read-undoes-write _ (c .before .before .before .before .before .before .before .before .before .before .before .args .chart .now) (c .before .n .given .0 .0) (sym (c .before .before .before .before .before .write-chart .ensures .0) ∙ c .before .n .given .1) .short in
+    record { fits = omega arith }
 
 same-length : tie.Need-same-length
 same-length c = search needs
 
 returns-2 : tie.Need-returns-2
-returns-2 c = write-done (c .before .before .before .before .before .before .before .before .before .before .before .args .image .now) (c .before .before .before .before .before .before .before .before .before .before .before .args .chart .now) (c .before .before .before .before .before .before .before .before .if1 .left) (c .before .before .before .before .before .before .before .chart-in .ensures) (c .before .before .before .before .before .write-chart .result) (c .before .before .before .before .before .write-chart .ensures .1 .0) (c .before .before .before .before .before .write-chart .ensures .1 .1 .0) (c .before .before .before .before .before .write-chart .ensures .1 .1 .1) (c .write-number .ensures) (ap writeCount (sym (c .before .enum-told .given .1)))
-
-cast-written : tie.Need-cast-written
-cast-written c =
-    let s = read-undoes-write _ (c .before .before .before .before .before .before .before .before .before .before .before .args .chart .now) (c .before .answer .given .0 .0) (sym (c .before .before .before .before .before .write-chart .ensures .0) ∙ c .before .answer .given .1) .short in
-    record { fits = omega arith }
+returns-2 c = write-done (c .before .before .before .before .before .before .before .before .before .before .before .args .image .now) (c .before .before .before .before .before .before .before .before .before .before .before .args .chart .now) (c .before .before .before .before .before .before .before .before .if1 .left) (c .before .before .before .before .before .before .before .chart-in .ensures) (c .before .before .before .before .before .write-chart .result) (c .before .before .before .before .before .write-chart .ensures .1 .0) (c .before .before .before .before .before .write-chart .ensures .1 .1 .0) (c .before .before .before .before .before .write-chart .ensures .1 .1 .1) (ap writeNumber (sym (c .before .number .given .1))) (ap writeCount (sym (c .before .number .given .1)))
 
 same-length-2 : tie.Need-same-length-2
 same-length-2 c = search needs
 
 returns-3 : tie.Need-returns-3
-returns-3 c = write-done (c .before .before .before .before .before .before .before .before .before .before .before .args .image .now) (c .before .before .before .before .before .before .before .before .before .before .before .args .chart .now) (c .before .before .before .before .before .before .before .before .if1 .left) (c .before .before .before .before .before .before .before .chart-in .ensures) (c .before .before .before .before .before .write-chart .result) (c .before .before .before .before .before .write-chart .ensures .1 .0) (c .before .before .before .before .before .write-chart .ensures .1 .1 .0) (c .before .before .before .before .before .write-chart .ensures .1 .1 .1) (ap writeNumber (sym (c .before .answer .given .1))) (ap writeCount (sym (c .before .answer .given .1)))
+returns-3 c = write-done (c .before .before .before .before .before .before .before .before .before .before .before .args .image .now) (c .before .before .before .before .before .before .before .before .before .before .before .args .chart .now) (c .before .before .before .before .before .before .before .before .if1 .left) (c .before .before .before .before .before .before .before .chart-in .ensures) (c .before .before .before .before .before .write-chart .result) (c .before .before .before .before .before .write-chart .ensures .1 .0) (c .before .before .before .before .before .write-chart .ensures .1 .1 .0) (c .before .before .before .before .before .write-chart .ensures .1 .1 .1) (ap writeNumber (sym (c .before .n .given .1))) (ap writeCount (sym (c .before .n .given .1)))
 
 pub pz-chart-write-spec : {M : Type 1} → statement M
 pz-chart-write-spec =
@@ -50,11 +47,10 @@ pz-chart-write-spec =
     returns
     chart-in-requires
     write-chart-requires
-    enum-known-answer
-    enum-told
-    write-number-requires
+    enum-known-number
+    enum-known-n
+    cast-written
     same-length
     returns-2
-    cast-written
     same-length-2
     returns-3)

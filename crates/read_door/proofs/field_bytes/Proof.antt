@@ -1,12 +1,24 @@
 -- `read_door::field_bytes` meets its contract: the bytes of the address, and then the fields one by one.
-use mathlib.Core.Logic.{⊎-elim}
+use Rattle.lists.proofs.Bools.{bool-byte}
 use Rattle.read_door.specs.Image.{fieldBytes}
 use borrow.Author.Needs.{needs}
 use Rattle.read_door.proofs.field_bytes.Statement.{statement}
 use Rattle.read_door.proofs.field_bytes.Tie as tie
 
+cast-at : tie.Need-cast-at
+cast-at c = search needs
+
+mul-at : tie.Need-mul-at
+mul-at c = search needs
+
+add-at : tie.Need-add-at
+add-at c = search needs
+
 address-bytes-requires : tie.Need-address-bytes-requires
 address-bytes-requires c κs = search needs
+
+cast-ack : tie.Need-cast-ack
+cast-ack c = search needs
 
 array-read-t12 : tie.Need-array-read-t12
 array-read-t12 c = search needs
@@ -19,6 +31,9 @@ array-read-t18 c = search needs
 
 array-read-t21 : tie.Need-array-read-t21
 array-read-t21 c = search needs
+
+cast-t22 : tie.Need-cast-t22
+cast-t22 c = search needs
 
 cast-t23 : tie.Need-cast-t23
 cast-t23 c = search needs
@@ -35,26 +50,27 @@ cast-t29 c = search needs
 cast-t31 : tie.Need-cast-t31
 cast-t31 c = search needs
 
-cast-t33 : tie.Need-cast-t33
-cast-t33 c = search needs
-
 returns : tie.Need-returns
 unfolding fieldBytes
-returns c = ⊎-elim (λ w. rw (w .1, w .0 .taken, c .before .address-bytes .ensures)) (λ w. rw (w .1, w .0 .left, c .before .address-bytes .ensures)) (c .if1 .came)
+returns c = rw (bool-byte (c .before .before .before .args .e .ack), c .before .address-bytes .ensures)
 
 pub field-bytes-spec : {M : Type 1} → statement M
 field-bytes-spec =
     tie.close
     (tie.spec
+    cast-at
+    mul-at
+    add-at
     address-bytes-requires
+    cast-ack
     array-read-t12
     array-read-t15
     array-read-t18
     array-read-t21
+    cast-t22
     cast-t23
     cast-t25
     cast-t27
     cast-t29
     cast-t31
-    cast-t33
     returns)

@@ -25,14 +25,14 @@ abbrev μ-loop : tie.MeasureT-loop
 loop-holds : tie.Need-loop-holds Inv-loop μ-loop
 loop-holds c = (omega arith, rw joined-none, refl)
 
-destination-requires : tie.Need-destination-requires Inv-loop μ-loop
-destination-requires c κs = search needs
+mul-unpack : tie.Need-mul-unpack Inv-loop μ-loop
+mul-unpack c = search needs
+
+unpack-requires : tie.Need-unpack-requires Inv-loop μ-loop
+unpack-requires c κs = search needs
 
 address-bytes-requires : tie.Need-address-bytes-requires Inv-loop μ-loop
 address-bytes-requires c κs = search needs
-
-cast-put-all : tie.Need-cast-put-all Inv-loop μ-loop
-cast-put-all c = search needs
 
 mul-put-all : tie.Need-mul-put-all Inv-loop μ-loop
 mul-put-all c = search needs
@@ -53,11 +53,12 @@ loop-less : tie.Need-loop-less Inv-loop μ-loop
 loop-less c = search needs
 
 loop-again : tie.Need-loop-again Inv-loop μ-loop
+unfolding destinationAt
 loop-again c =
     let l = c .before .before .before .before .before .before .before .before .loop in
     let a = c .before .before .before .before .before .before .before .before .before .before .before .args in (
       omega arith,
-      rw (c .before .before .put-all .ensures, l .inv .1, c .before .before .before .before .before .address-bytes .ensures, c .before .before .before .before .before .before .destination .ensures)
+      rw (c .before .before .put-all .ensures, l .inv .1, c .before .before .before .before .before .address-bytes .ensures, c .before .before .before .before .before .before .unpack .ensures)
           (joined-stored addressBytes 4 length-address (a .image .now) 15 (destinationAt (a .part .now)) (l .i)),
       omega (arith, c .before .before .put-all .kept .0),
     )
@@ -77,9 +78,9 @@ put-destinations-spec =
     Inv-loop
     μ-loop
     loop-holds
-    destination-requires
+    mul-unpack
+    unpack-requires
     address-bytes-requires
-    cast-put-all
     mul-put-all
     add-put-all
     slice-aggregate-put-all

@@ -10,14 +10,17 @@ use Rattle.sheet_door.proofs.pz_sheet.Tie as tie
 write-sheet-requires : tie.Need-write-sheet-requires
 write-sheet-requires c κs = search needs
 
-enum-known-answer : tie.Need-enum-known-answer
-enum-known-answer c = search needs
+enum-known-number : tie.Need-enum-known-number
+enum-known-number c = search needs
 
-enum-told : tie.Need-enum-told
-enum-told c = search needs
+enum-known-n : tie.Need-enum-known-n
+enum-known-n c = search needs
 
-write-number-requires : tie.Need-write-number-requires
-write-number-requires c κs = search needs
+cast-written : tie.Need-cast-written
+cast-written c =
+    let n = c .before .n .given .0 .0 in
+    let s = wrote-short (c .before .before .before .before .before .before .before .before .before .args .chart .now) (λ i. c .before .before .before .before .before .before .before .before .shared-slice-known .given i .fits) _ n (sym (c .before .before .before .before .before .write-sheet .ensures .0) ∙ c .before .n .given .1) in
+    record { fits = omega arith }
 
 same-length : tie.Need-same-length
 same-length c = search needs
@@ -25,13 +28,7 @@ same-length c = search needs
 returns : tie.Need-returns
 returns c =
     let h = c .before .before .before .before .before .write-sheet .ensures in
-    (c .write-number .ensures ∙ h .1 .0, ap writeCount (sym (c .before .enum-told .given .1)) ∙ h .1 .1 .0, h .1 .1 .1)
-
-cast-written : tie.Need-cast-written
-cast-written c =
-    let n = c .before .answer .given .0 .0 in
-    let s = wrote-short (c .before .before .before .before .before .before .before .before .before .args .chart .now) (λ i. c .before .before .before .before .before .before .before .before .shared-slice-known .given i .fits) _ n (sym (c .before .before .before .before .before .write-sheet .ensures .0) ∙ c .before .answer .given .1) in
-    record { fits = omega arith }
+    (ap writeNumber (sym (c .before .number .given .1)) ∙ h .1 .0, ap writeCount (sym (c .before .number .given .1)) ∙ h .1 .1 .0, h .1 .1 .1)
 
 same-length-2 : tie.Need-same-length-2
 same-length-2 c = search needs
@@ -39,7 +36,7 @@ same-length-2 c = search needs
 returns-2 : tie.Need-returns-2
 returns-2 c =
     let h = c .before .before .before .before .before .write-sheet .ensures in
-    let e = sym (c .before .answer .given .1) in
+    let e = sym (c .before .n .given .1) in
     (ap writeNumber e ∙ h .1 .0, ap writeCount e ∙ h .1 .1 .0, h .1 .1 .1)
 
 pub pz-sheet-spec : {M : Type 1} → statement M
@@ -47,11 +44,10 @@ pz-sheet-spec =
     tie.close
     (tie.spec
     write-sheet-requires
-    enum-known-answer
-    enum-told
-    write-number-requires
+    enum-known-number
+    enum-known-n
+    cast-written
     same-length
     returns
-    cast-written
     same-length-2
     returns-2)

@@ -26,13 +26,20 @@ loop-holds : tie.Need-loop-holds Inv-loop μ-loop
 unfolding firsts
 loop-holds c = (omega arith, search needs, search needs, refl)
 
-destination-requires : tie.Need-destination-requires Inv-loop μ-loop
-destination-requires c κs = search needs
+cast-unpack : tie.Need-cast-unpack Inv-loop μ-loop
+cast-unpack c = search needs
+
+mul-unpack : tie.Need-mul-unpack Inv-loop μ-loop
+mul-unpack c = search needs
+
+unpack-requires : tie.Need-unpack-requires Inv-loop μ-loop
+unpack-requires c κs = search needs
 
 leg-for-requires : tie.Need-leg-for-requires Inv-loop μ-loop
+unfolding destinationAt
 leg-for-requires c κs =
     let s = c .before .before .before .before .before in
-    (s .pre .1, call-ranged (s .args .part .now) (λ i. c .before .before .before .before .shared-slice-known .given i .fits) _ (c .destination .ensures) (s .pre .2))
+    (s .pre .1, call-ranged (s .args .part .now) (λ i. c .before .before .before .before .shared-slice-known .given i .fits) _ (c .unpack .ensures) (s .pre .2))
 
 cast-k : tie.Need-cast-k Inv-loop μ-loop
 cast-k c = search needs
@@ -53,14 +60,14 @@ loop-less : tie.Need-loop-less Inv-loop μ-loop
 loop-less c = search needs
 
 loop-again : tie.Need-loop-again Inv-loop μ-loop
-unfolding legForAt
+unfolding legForAt destinationAt
 loop-again c =
     let l = c .before .before .before .loop in
     let a = c .before .before .before .before .before .before .args in (
       omega arith,
       l .inv .1,
       l .inv .2,
-      rw (c .leg-for .ensures, c .before .destination .ensures, l .inv .3)
+      rw (c .leg-for .ensures, c .before .unpack .ensures, l .inv .3)
           (firsts-stored (a .l .legs) (a .l .count) (legForAt (a .e) (destinationAt (a .part .now)) (a .arrival) (a .table) (a .ticks)) (l .i)),
     )
 
@@ -82,7 +89,9 @@ with-legs-spec =
     μ-loop
     cast-base
     loop-holds
-    destination-requires
+    cast-unpack
+    mul-unpack
+    unpack-requires
     leg-for-requires
     cast-k
     add-k

@@ -1,16 +1,12 @@
--- `envelope::refusing::is_outside` meets its contract: 0 decides, else the top.
+-- `envelope::refusing::is_outside` meets its contract: the code is the definition.
+use mathlib.Core.Path.{refl}
 use Rattle.envelope.specs.Refusal.{outside}
-use borrow.Author.Tests.{eq-eqb, ne-eqb}
 use Rattle.envelope.proofs.refusing.is_outside.Statement.{statement}
 use Rattle.envelope.proofs.refusing.is_outside.Tie as tie
 
 returns : tie.Need-returns
 unfolding outside
-returns c = simp (eq-eqb _ _ (c .if1 .taken))
-
-returns-2 : tie.Need-returns-2
-unfolding outside
-returns-2 c = simp (ne-eqb _ _ (c .if1 .left))
+returns c = refl
 
 pub is-outside-spec : {M : Type 1} → statement M
-is-outside-spec = tie.close (tie.spec returns returns-2)
+is-outside-spec = tie.close (tie.spec returns)

@@ -1,4 +1,4 @@
--- `envelope_read::places::read_places` meets its contract. The loop's invariant: the first i destinations are in the row.
+-- `envelope_parts::places::read_places` meets its contract. The loop's invariant: the first i destinations are in the row.
 use Prim.Native.Nat.{_≤_, _-_}
 use mathlib.Core.Path.{_≡_, sym, _∙_}
 use Rattle.lists.specs.Places.{row}
@@ -23,11 +23,11 @@ no-places-requires c κs = search needs
 loop-holds : tie.Need-loop-holds Inv-loop μ-loop
 loop-holds c = (omega arith, c .no-places .ensures ∙ sym (row-none 63 zeroAddress (destinationAt (c .before .before .args .part .now))))
 
-cast-destination : tie.Need-cast-destination Inv-loop μ-loop
-cast-destination c = search needs
+mul-unpack : tie.Need-mul-unpack Inv-loop μ-loop
+mul-unpack c = search needs
 
-destination-requires : tie.Need-destination-requires Inv-loop μ-loop
-destination-requires c κs = search needs
+unpack-requires : tie.Need-unpack-requires Inv-loop μ-loop
+unpack-requires c κs = search needs
 
 mul-places : tie.Need-mul-places Inv-loop μ-loop
 mul-places c = search needs
@@ -42,10 +42,11 @@ loop-less : tie.Need-loop-less Inv-loop μ-loop
 loop-less c = search needs
 
 loop-again : tie.Need-loop-again Inv-loop μ-loop
+unfolding destinationAt
 loop-again c =
     let l = c .before .before .loop in
     let d = destinationAt (c .before .before .before .before .before .args .part .now) in
-    (omega arith, rw (c .destination .ensures, l .inv .1) (row-next 63 zeroAddress d (l .i) (omega arith)))
+    (omega arith, rw (c .unpack .ensures, l .inv .1) (row-next 63 zeroAddress d (l .i) (omega arith)))
 
 returns : tie.Need-returns Inv-loop μ-loop
 returns c =
@@ -61,8 +62,8 @@ read-places-spec =
     μ-loop
     no-places-requires
     loop-holds
-    cast-destination
-    destination-requires
+    mul-unpack
+    unpack-requires
     mul-places
     array-set-from-places
     add-i

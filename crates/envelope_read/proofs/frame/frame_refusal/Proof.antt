@@ -13,7 +13,7 @@ use Rattle.envelope_read.proofs.frame.frame_refusal.Tie as tie
 
 returns : tie.Need-returns
 unfolding frameRefusal
-returns c = simp (lt-ltb _ _ (c .if1 .taken))
+returns c = rw (lt-ltb _ _ (c .if1 .taken))
 
 word-at-requires : tie.Need-word-at-requires
 word-at-requires c κs = search needs
@@ -34,13 +34,13 @@ returns-2 : tie.Need-returns-2
 unfolding frameRefusal countOf lengthOf
 returns-2 c =
     let f = c .before .before .before .before .args .frame .now in
-    simp (le-ltb (length f) 10 (omega arith), lt-ltb (length f) (sizeOf f) (omega arith))
+    rw (le-ltb (length f) 10 (omega arith), lt-ltb (length f) (sizeOf f) (omega arith))
 
 returns-3 : tie.Need-returns-3
 unfolding frameRefusal countOf lengthOf
 returns-3 c =
     let f = c .before .before .before .before .before .args .frame .now in
-    simp (le-ltb (length f) 10 (omega arith), le-ltb (length f) (sizeOf f) (omega arith), lt-ltb (sizeOf f) (length f) (omega arith))
+    rw (le-ltb (length f) 10 (omega arith), le-ltb (length f) (sizeOf f) (omega arith), lt-ltb (sizeOf f) (length f) (omega arith))
 
 sub-check : tie.Need-sub-check
 sub-check c = search needs
@@ -63,7 +63,7 @@ returns-4 : tie.Need-returns-4
 unfolding frameRefusal countOf lengthOf
 returns-4 c =
     let f = c .before .before .before .before .before .before .before .before .before .args .frame .now in
-    simp (
+    rw (
       le-ltb (length f) 10 (omega arith),
       le-ltb (length f) (sizeOf f) (omega arith),
       le-ltb (sizeOf f) (length f) (omega arith),
@@ -74,7 +74,7 @@ returns-5 : tie.Need-returns-5
 unfolding frameRefusal countOf lengthOf
 returns-5 c =
     let f = c .before .before .before .before .before .before .before .before .before .args .frame .now in
-    simp (
+    rw (
       le-ltb (length f) 10 (omega arith),
       le-ltb (length f) (sizeOf f) (omega arith),
       le-ltb (sizeOf f) (length f) (omega arith),

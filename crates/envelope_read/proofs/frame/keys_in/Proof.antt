@@ -1,4 +1,4 @@
--- `envelope_read::places::keys_in` meets its contract. The loop's invariant: the first i keys are in the row.
+-- `envelope_read::frame::keys_in` meets its contract. The loop's invariant: the first i keys are in the row.
 use Prim.Native.Nat.{_≤_, _-_}
 use mathlib.Core.Path.{_≡_, sym}
 use Rattle.lists.specs.Places.{row}
@@ -20,11 +20,11 @@ abbrev μ-loop : tie.MeasureT-loop
 loop-holds : tie.Need-loop-holds Inv-loop μ-loop
 loop-holds c = (omega arith, sym (row-none 63 0 (keyAt (destinationAt (c .before .args .part .now)))))
 
-cast-destination : tie.Need-cast-destination Inv-loop μ-loop
-cast-destination c = search needs
+mul-unpack : tie.Need-mul-unpack Inv-loop μ-loop
+mul-unpack c = search needs
 
-destination-requires : tie.Need-destination-requires Inv-loop μ-loop
-destination-requires c κs = search needs
+unpack-requires : tie.Need-unpack-requires Inv-loop μ-loop
+unpack-requires c κs = search needs
 
 key-requires : tie.Need-key-requires Inv-loop μ-loop
 key-requires c κs = search needs
@@ -42,11 +42,11 @@ loop-less : tie.Need-loop-less Inv-loop μ-loop
 loop-less c = search needs
 
 loop-again : tie.Need-loop-again Inv-loop μ-loop
-unfolding keyAt
+unfolding keyAt destinationAt
 loop-again c =
     let l = c .before .before .before .loop in
     let d = keyAt (destinationAt (c .before .before .before .before .before .args .part .now)) in
-    (omega arith, rw (c .key .ensures, c .before .destination .ensures, l .inv .1) (row-next 63 0 d (l .i) (omega arith)))
+    (omega arith, rw (c .key .ensures, c .before .unpack .ensures, l .inv .1) (row-next 63 0 d (l .i) (omega arith)))
 
 returns : tie.Need-returns Inv-loop μ-loop
 returns c =
@@ -61,8 +61,8 @@ keys-in-spec =
     Inv-loop
     μ-loop
     loop-holds
-    cast-destination
-    destination-requires
+    mul-unpack
+    unpack-requires
     key-requires
     mul-keys
     array-write-keys

@@ -1,7 +1,7 @@
 -- `envelope_write::storing::mid_bytes` meets its contract: `<ack_req>` is the lowest bit of its word.
-use mathlib.Core.Logic.{⊎-elim}
-use native.Mathlib.Nat.{add-zero}
+use Rattle.lists.proofs.Bools.{bool-byte, bool-small}
 use Rattle.envelope_write.specs.Write.{midOf}
+use native.Mathlib.Omega.{arith}
 use borrow.Author.Needs.{needs}
 use Rattle.envelope_write.proofs.storing.mid_bytes.Statement.{statement}
 use Rattle.envelope_write.proofs.storing.mid_bytes.Tie as tie
@@ -15,21 +15,21 @@ add-p c = search needs
 mul-w : tie.Need-mul-w
 mul-w c = search needs
 
+cast-w : tie.Need-cast-w
+cast-w c = search needs
+
 add-w : tie.Need-add-w
-add-w c = search needs
+add-w c = record { fits = omega (arith, bool-small (c .before .before .before .before .args .e .ack)) }
 
-mul-w-2 : tie.Need-mul-w-2
-mul-w-2 c = search needs
+cast-t4 : tie.Need-cast-t4
+cast-t4 c = record { fits = omega (arith, bool-small (c .before .before .before .before .args .e .ack)) }
 
-cast-t5 : tie.Need-cast-t5
-cast-t5 c = search needs
-
-cast-t11 : tie.Need-cast-t11
-cast-t11 c = search needs
+cast-t7 : tie.Need-cast-t7
+cast-t7 c = search needs
 
 returns : tie.Need-returns
 unfolding midOf
-returns c = ⊎-elim (λ w. rw (w .1, w .0 .taken)) (λ w. rw (w .1, w .0 .left, add-zero)) (c .before .if1 .came)
+returns c = rw (bool-byte (c .before .before .before .before .args .e .ack))
 
 pub mid-bytes-spec : {M : Type 1} → statement M
-mid-bytes-spec = tie.close (tie.spec mul-p add-p mul-w add-w mul-w-2 cast-t5 cast-t11 returns)
+mid-bytes-spec = tie.close (tie.spec mul-p add-p mul-w cast-w add-w cast-t4 cast-t7 returns)
