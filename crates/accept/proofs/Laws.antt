@@ -12,35 +12,18 @@ use Rattle.lists.specs.Refusals.{unlessRefused}
 use Rattle.lists.proofs.Bools.{or-no-left, and-both}
 use Rattle.lists.proofs.Refusals.{pass, or-refused, taken, refused}
 use Rattle.address.specs.declared.Port.{Port}
-use Rattle.address.specs.declared.Seq.{Seq}
 use Rattle.address.specs.declared.Address.{Address}
-use Rattle.address.specs.Address.{inRange, sameAddress}
+use Rattle.address.specs.Address.{inRange}
 use Rattle.envelope.specs.declared.Fixed.{Fixed}
 use Rattle.envelope.specs.Frame.{partAt, fieldsOf, destinationAt}
 use Rattle.envelope.specs.Refusal.{refusalOf}
 use Rattle.envelope.proofs.Laws.{part-bytes, part-from, destination-ranged, never-stray}
 use Rattle.route.specs.declared.Table.{Table}
 use Rattle.route.specs.Route.{tableInRange, callInRange}
-use Rattle.ledger.specs.declared.Leg.{Leg}
 use Rattle.ledger.specs.declared.Ledger.{Ledger}
-use Rattle.ledger.specs.Rules.{isOpen, obeys}
+use Rattle.ledger.specs.Rules.{obeys}
 use Rattle.accept.specs.declared.Accepted.{Accepted}
-use Rattle.accept.specs.Accept.{openFrom, openFromAt, legsRefusal, callRefusal, acceptNumber, withLegs, acceptOf}
-
--- ---- an open leg with this source and sequence number, from the tests on the way
-
-module _ (source : Address) (seq : Seq) (g : Leg) where
-  pub from-settled : isOpen (g .standing) ≡ false → false ≡ openFrom source seq g
-  unfolding openFrom
-  from-settled a = rw a
-
-  pub from-other : isOpen (g .standing) ≡ true → sameAddress (g .source) source ≡ false → false ≡ openFrom source seq g
-  unfolding openFrom
-  from-other a b = rw (a, b)
-
-  pub from-by-number : isOpen (g .standing) ≡ true → sameAddress (g .source) source ≡ true → eqb (g .seq .0) (seq .0) ≡ openFrom source seq g
-  unfolding openFrom
-  from-by-number a b = rw (a, b)
+use Rattle.accept.specs.Accept.{openFromAt, legsRefusal, callRefusal, acceptNumber, withLegs, acceptOf}
 
 -- ---- 61 to 63
 

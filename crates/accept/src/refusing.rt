@@ -31,13 +31,7 @@ fn is_open_from(g: Leg, source: Address, seq: Seq) -> bool
     ensures { λ r. ⌜ r ≡ openFrom source seq g ⌝ }
 {
     let s = g.standing;
-    if !ledger::is_open(s) {
-        return false;
-    }
-    if !address::same_address(g.source, source) {
-        return false;
-    }
-    g.seq.0 == seq.0
+    ledger::is_open(s) & address::same_address(g.source, source) & (g.seq.0 == seq.0)
 }
 
 // Whether some leg is open and has this source and this sequence number.

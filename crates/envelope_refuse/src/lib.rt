@@ -32,13 +32,7 @@ fn out_of_range(e: Fixed, places: [Address; 63]) -> bool
     requires { ⌜ e .count ≤ 63 ⌝ }
     ensures { λ r. ⌜ r ≡ outOfRange e (elementAt zeroAddress places) ⌝ }
 {
-    if !address::in_range(e.source) {
-        return true;
-    }
-    if LARGEST_SEQ < e.seq.0 {
-        return true;
-    }
-    any_stray(places, e.count as usize)
+    !address::in_range(e.source) | (LARGEST_SEQ < e.seq.0) | any_stray(places, e.count as usize)
 }
 
 // The keys of the first n addresses.

@@ -6,6 +6,14 @@ use mathlib.Core.Bool.{Bool, true, false, not, cond, _&&_, _||_, true≢false}
 use mir.Val.{boolByte}
 use native.Mathlib.Omega.{arith}
 
+pub and-assoc : (x y z : Bool) → ((x && y) && z) ≡ (x && y && z)
+and-assoc true y z = refl
+and-assoc false y z = refl
+
+pub or-assoc : (x y z : Bool) → ((x || y) || z) ≡ (x || (y || z))
+or-assoc true y z = refl
+or-assoc false y z = refl
+
 -- `b as u8`
 pub bool-byte : (b : Bool) → boolByte b ≡ cond b 1 0
 bool-byte true = refl

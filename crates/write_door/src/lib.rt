@@ -59,10 +59,7 @@ fn places_in(b: &[u8], n: usize) -> [Address; 63]
 fn stray_ack(count: u8, n: usize) -> u8
     ensures { λ r. ⌜ r ≡ strayAck count n ⌝ }
 {
-    if count == 0 {
-        return 4;
-    }
-    if MOST_DESTINATIONS < count {
+    if (count == 0) | (MOST_DESTINATIONS < count) {
         return 4;
     }
     if LONGEST_CONTENTS < n {

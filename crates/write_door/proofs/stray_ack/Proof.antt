@@ -1,6 +1,5 @@
 -- `write_door::stray_ack` meets its contract: the tests on the way say which number.
-use borrow.Author.Tests.{eq-eqb, ne-eqb, lt-ltb, le-ltb}
-use Rattle.lists.proofs.Bools.{or-right}
+use borrow.Author.Tests.{lt-ltb, le-ltb}
 use Rattle.envelope.specs.Refusal.{outside}
 use Rattle.write_door.specs.Image.{strayAck}
 use Rattle.write_door.proofs.stray_ack.Statement.{statement}
@@ -8,19 +7,15 @@ use Rattle.write_door.proofs.stray_ack.Tie as tie
 
 returns : tie.Need-returns
 unfolding strayAck outside
-returns c = rw (eq-eqb _ _ (c .if1 .taken))
+returns c = rw (c .if1 .taken)
 
 returns-2 : tie.Need-returns-2
 unfolding strayAck outside
-returns-2 c = rw (lt-ltb _ _ (c .if2 .taken), or-right)
+returns-2 c = rw (c .before .if1 .left, lt-ltb _ _ (c .if2 .taken))
 
 returns-3 : tie.Need-returns-3
 unfolding strayAck outside
-returns-3 c = rw (ne-eqb _ _ (c .before .before .if1 .left), le-ltb _ _ (c .before .if2 .left), lt-ltb _ _ (c .if3 .taken))
-
-returns-4 : tie.Need-returns-4
-unfolding strayAck outside
-returns-4 c = rw (ne-eqb _ _ (c .before .before .if1 .left), le-ltb _ _ (c .before .if2 .left), le-ltb _ _ (c .if3 .left))
+returns-3 c = rw (c .before .if1 .left, le-ltb _ _ (c .if2 .left))
 
 pub stray-ack-spec : {M : Type 1} → statement M
-stray-ack-spec = tie.close (tie.spec returns returns-2 returns-3 returns-4)
+stray-ack-spec = tie.close (tie.spec returns returns-2 returns-3)
