@@ -25,7 +25,7 @@ pub extern "C" fn pz_accept(
     let after = accept::accept(l, frame, Port(arrival), t, ticks);
     *added = after.added;
     let m = after.ledger;
-    ledger_image::put_back(ledger, after.number, m, m.count)
+    ledger_back::put_back(ledger, after.number, m, m.count)
 }
 
 // The reply that three numbers of a call stand for.
@@ -69,7 +69,7 @@ pub extern "C" fn pz_answer(
     let reply = reply_of(nak, set, code);
     let after = answer::answer(l, by, to, Seq(seq), reply);
     let m = after.ledger;
-    ledger_image::put_back(ledger, after.number, m, l.count)
+    ledger_back::put_back(ledger, after.number, m, l.count)
 }
 
 // One tick for every leg; `ended` is how many timed out.
@@ -81,7 +81,7 @@ pub extern "C" fn pz_tick(ledger: &mut [u8], ended: &mut u8) -> u8
     let after = tick::tick(l);
     *ended = after.ended;
     let m = after.ledger;
-    ledger_image::put_back(ledger, after.number, m, l.count)
+    ledger_back::put_back(ledger, after.number, m, l.count)
 }
 
 // Removes the settled leg at a place.
@@ -92,5 +92,5 @@ pub extern "C" fn pz_clear(ledger: &mut [u8], place: usize) -> u8
     let l = ledger_image::ledger_of(ledger);
     let after = clear::clear(l, place);
     let m = after.ledger;
-    ledger_image::put_back(ledger, after.number, m, l.count)
+    ledger_back::put_back(ledger, after.number, m, l.count)
 }

@@ -1,8 +1,8 @@
--- `ledger_image::legs::leg_bytes` meets its contract: the bytes of two addresses, two words and a standing, one by one.
+-- `ledger_back::legs::leg_bytes` meets its contract: the bytes of two addresses, two words and a standing, one by one.
 use Rattle.ledger_image.proofs.LegLaws.{leg-made}
 use borrow.Author.Needs.{needs}
-use Rattle.ledger_image.proofs.legs.leg_bytes.Statement.{statement}
-use Rattle.ledger_image.proofs.legs.leg_bytes.Tie as tie
+use Rattle.ledger_back.proofs.legs.leg_bytes.Statement.{statement}
+use Rattle.ledger_back.proofs.legs.leg_bytes.Tie as tie
 
 address-bytes-requires : tie.Need-address-bytes-requires
 address-bytes-requires c κs = search needs

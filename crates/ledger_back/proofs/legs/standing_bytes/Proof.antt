@@ -1,8 +1,8 @@
--- `ledger_image::legs::standing_bytes` meets its contract: by cases on the standing.
+-- `ledger_back::legs::standing_bytes` meets its contract: by cases on the standing.
 use Rattle.ledger_image.specs.Leg.{standingBytes}
 use borrow.Author.Needs.{needs}
-use Rattle.ledger_image.proofs.legs.standing_bytes.Statement.{statement}
-use Rattle.ledger_image.proofs.legs.standing_bytes.Tie as tie
+use Rattle.ledger_back.proofs.legs.standing_bytes.Statement.{statement}
+use Rattle.ledger_back.proofs.legs.standing_bytes.Tie as tie
 
 enum-told : tie.Need-enum-told
 enum-told c = search needs

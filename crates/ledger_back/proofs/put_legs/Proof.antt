@@ -1,20 +1,19 @@
--- `ledger_image::put_legs` meets its contract. The loop's invariant: the count and the legs before i are stored.
+-- `ledger_back::put_legs` meets its contract. The loop's invariant: the count and the legs before i are stored.
 use Prim.Native.Nat.{_≤_, _-_}
 use mathlib.Core.Path.{_≡_, sym, ap, refl, _∙_}
-use mathlib.Core.List.{[], _∷_}
 use lib.ListN.{length}
 use lib.Seq.{sets}
 use Rattle.lists.specs.Places.{joined, elementAt}
 use Rattle.lists.proofs.Places.{joined-none}
 use Rattle.lists.proofs.Stores.{joined-stored}
 use Rattle.ledger.specs.Rules.{legAt}
 use Rattle.ledger_image.specs.Leg.{legBytes}
 use Rattle.ledger_image.specs.Ledger.{withLegs}
 use Rattle.ledger_image.proofs.LegLaws.{length-leg}
 use native.Mathlib.Omega.{arith}
 use borrow.Author.Needs.{needs}
-use Rattle.ledger_image.proofs.put_legs.Statement.{statement}
-use Rattle.ledger_image.proofs.put_legs.Tie as tie
+use Rattle.ledger_back.proofs.put_legs.Statement.{statement}
+use Rattle.ledger_back.proofs.put_legs.Tie as tie
 
 abbrev Inv-loop : tie.InvT-loop
 Inv-loop b₀ n l m i₀ b i =

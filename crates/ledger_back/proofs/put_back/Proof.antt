@@ -1,11 +1,11 @@
--- `ledger_image::put_back` meets its contract: the number decides whether legs are written, and at most 128 are.
+-- `ledger_back::put_back` meets its contract: the number decides whether legs are written, and at most 128 are.
 use mathlib.Core.Path.{refl, sym, _∙_}
 use Rattle.lists.proofs.Refusals.{refused}
 use Rattle.ledger_image.specs.Ledger.{ledgerAfter}
 use Rattle.ledger_image.proofs.LedgerLaws.{few-after, all-after}
 use borrow.Author.Needs.{needs}
-use Rattle.ledger_image.proofs.put_back.Statement.{statement}
-use Rattle.ledger_image.proofs.put_back.Tie as tie
+use Rattle.ledger_back.proofs.put_back.Statement.{statement}
+use Rattle.ledger_back.proofs.put_back.Tie as tie
 
 returns : tie.Need-returns
 unfolding ledgerAfter
