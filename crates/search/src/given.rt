@@ -33,6 +33,7 @@ pub fn later(
     if over | here {
         return nothing(41);
     }
+    // Link i leads on if it is the first one from its own place on that does.
     let b = r[d];
     let i = b as usize;
     let w = seek(ends, ways, links, at, met, i);
