@@ -1,11 +1,11 @@
 -- Laws of the ledger's rules: what an obedient ledger is, and that legs alike are legs with the same key.
 use Prim.Native.Nat.{ℕ, _+_, _*_, _<_, _≤_}
 use mathlib.Core.Path.{_≡_, refl, sym, ap, _∙_}
-use mathlib.Core.Bool.{Bool, true, false, not, _&&_, cond}
+use mathlib.Core.Bool.{Bool, Bool·beq, true, false, not, _&&_, cond}
 use mathlib.Core.List.{List}
 use native.Mathlib.Omega.{arith}
-use lib.Dec.{leb, eqb}
-use borrow.Author.Tests.{leb-true, eqb-true, eq-eqb, ne-eqb, le-leb, lt-leb, not-true, not-false}
+use lib.Dec.{leb, ltb, eqb}
+use borrow.Author.Tests.{leb-true, ltb-true, ltb-false, eqb-true, eq-eqb, ne-eqb, le-leb, lt-leb, not-true, not-false}
 use Rattle.lists.specs.Places.{anyBelow, sameAt, repeatAt, repeats, elementAt, row}
 use Rattle.lists.proofs.Bools.{and-left, and-right, and-both, both-same}
 use Rattle.lists.proofs.Places.{any-agree, any-never, any-false, any-found, any-more, repeats-agree, row-at}
@@ -18,33 +18,29 @@ use Rattle.ledger.specs.declared.Ledger.{Ledger}
 use Rattle.ledger.specs.Rules.{legAt, isOpen, openLeg, alike, ticksRight, legRight, wrongAt, obeys}
 use Rattle.ledger.specs.Keys.{legKey, legKeyAt, sameKey}
 
--- ---- an open leg with this source, destination and sequence number, from the tests on the way
-
-module _ (source destination : Address) (seq : Seq) (g : Leg) where
-  pub leg-settled : isOpen (g .standing) ≡ false → false ≡ openLeg source destination seq g
-  unfolding openLeg
-  leg-settled a = rw a
-
-  pub leg-from-other : isOpen (g .standing) ≡ true → sameAddress (g .source) source ≡ false → false ≡ openLeg source destination seq g
-  unfolding openLeg
-  leg-from-other a b = rw (a, b)
-
-  module _ (open-leg : isOpen (g .standing) ≡ true) (from : sameAddress (g .source) source ≡ true) where
-    pub leg-to-other : sameAddress (g .destination) destination ≡ false → false ≡ openLeg source destination seq g
-    unfolding openLeg
-    leg-to-other b = rw (open-leg, from, b)
-
-    pub leg-by-number : sameAddress (g .destination) destination ≡ true → eqb (g .seq .0) (seq .0) ≡ openLeg source destination seq g
-    unfolding openLeg
-    leg-by-number b = rw (open-leg, from, b)
-
 -- ---- a leg that is right
+
+-- ticks are left exactly where the leg is open
+ticks-told : (g : Leg) {o : Bool} → o ≡ isOpen (g .standing) → Bool·beq o (ltb 0 (g .ticks)) ≡ ticksRight g
+unfolding ticksRight
+ticks-told g e = rw e (go (isOpen (g .standing)) (ltb 0 (g .ticks)) refl)
+  where
+    go : (o left : Bool) → ltb 0 (g .ticks) ≡ left → Bool·beq o left ≡ cond o left (eqb (g .ticks) 0)
+    go true true h = refl
+    go true false h = refl
+    go false true h = let l = ltb-true 0 (g .ticks) h in sym (ne-eqb (g .ticks) 0 (omega arith))
+    go false false h = let l = ltb-false 0 (g .ticks) h in sym (eq-eqb (g .ticks) 0 (omega arith))
 
 pub record Right (g : Leg) : Type 0 where
   pub ticks : ticksRight g ≡ true
   pub source : inRange (g .source) ≡ true
   pub destination : inRange (g .destination) ≡ true
   pub seq : g .seq .0 ≤ 32767
+
+pub right-told : (g : Leg) {o source destination : Bool} → o ≡ isOpen (g .standing) → source ≡ inRange (g .source) → destination ≡ inRange (g .destination)
+    → (Bool·beq o (ltb 0 (g .ticks)) && source && destination && leb (g .seq .0) 32767) ≡ legRight g
+unfolding legRight
+right-told g o s d = rw (ticks-told g o, s, d)
 
 pub right : (g : Leg) → legRight g ≡ true → Right g
 unfolding legRight
@@ -115,14 +111,13 @@ alike-keys l h {keys} e =
     ∙ sym (alike-key (legAt l i) (legAt l j) (legs-right l h i hi) (legs-right l h j hj))))
 
 -- the search for a key: none is that of a settled leg
-module _ (d : ℕ → ℕ) (i : ℕ) where
-  pub settled-unseen : d i ≡ 0 → false ≡ repeatAt sameKey d i
-  unfolding repeatAt sameAt sameKey
-  settled-unseen e = sym (any-never (sameAt sameKey d i) (λ j. rw e) i)
-
-  pub open-seen : (d i ≡ 0 → ⊥) → {b : Bool} → b ≡ anyBelow (sameAt eqb d i) i → b ≡ repeatAt sameKey d i
-  unfolding repeatAt sameAt sameKey
-  open-seen h e = e ∙ any-agree (sameAt eqb d i) (sameAt sameKey d i) i (λ j l. rw (ne-eqb (d i) 0 h))
+pub open-seen : (d : ℕ → ℕ) (i : ℕ) {b : Bool} → b ≡ anyBelow (sameAt eqb d i) i → (not (eqb (d i) 0) && b) ≡ repeatAt sameKey d i
+unfolding repeatAt sameAt sameKey
+open-seen d i e = rw e (go (eqb (d i) 0) refl)
+  where
+    go : (z : Bool) → eqb (d i) 0 ≡ z → (not z && anyBelow (sameAt eqb d i) i) ≡ anyBelow (sameAt sameKey d i) i
+    go true h = sym (any-never (sameAt sameKey d i) (λ j. rw h) i)
+    go false h = any-agree (sameAt eqb d i) (sameAt sameKey d i) i (λ j l. rw h)
 
 -- ---- whether a ledger obeys its rules
 

@@ -29,15 +29,10 @@ fn seen(keys: &[u64; 128], i: usize) -> bool
     let mut found = false;
     let mut j = 0;
     while j < i {
-        if key == keys[j] {
-            found = true;
-        }
+        found = found | (key == keys[j]);
         j += 1;
     }
-    if key == 0 {
-        return false;
-    }
-    found
+    (key != 0) & found
 }
 
 // Whether two of the first n keys are those of legs alike.

@@ -16,13 +16,10 @@ pub const MOST_LEGS: u8 = 128;
 pub fn is_open(s: Standing) -> bool
     ensures { λ r. ⌜ r ≡ isOpen s ⌝ }
 {
-    match s {
-        Standing::Open => true,
-        Standing::Acknowledged => false,
-        Standing::Refused(_, _) => false,
-        Standing::Undeliverable => false,
-        Standing::TimedOut => false,
-    }
+    let Standing::Open = s else {
+        return false;
+    };
+    true
 }
 
 // Whether the leg is open, and has this source, this destination and this sequence number.
@@ -30,43 +27,21 @@ pub fn is_open_leg(g: Leg, source: Address, destination: Address, seq: Seq) -> b
     ensures { λ r. ⌜ r ≡ openLeg source destination seq g ⌝ }
 {
     let s = g.standing;
-    if !is_open(s) {
-        return false;
-    }
-    if !address::same_address(g.source, source) {
-        return false;
-    }
-    if !address::same_address(g.destination, destination) {
-        return false;
-    }
-    g.seq.0 == seq.0
+    is_open(s)
+        & address::same_address(g.source, source)
+        & address::same_address(g.destination, destination)
+        & (g.seq.0 == seq.0)
 }
 
-// Whether an open leg has ticks left, and a settled one none.
-fn ticks_right(g: Leg) -> bool
-    ensures { λ r. ⌜ r ≡ ticksRight g ⌝ }
-{
-    let s = g.standing;
-    if is_open(s) {
-        return 0 < g.ticks;
-    }
-    g.ticks == 0
-}
-
-// Whether its ticks, addresses and sequence number are right.
+// Whether an open leg has ticks left and a settled one none, and the addresses and the sequence number are in range.
 fn leg_right(g: Leg) -> bool
     ensures { λ r. ⌜ r ≡ legRight g ⌝ }
 {
-    if !ticks_right(g) {
-        return false;
-    }
-    if !address::in_range(g.source) {
-        return false;
-    }
-    if !address::in_range(g.destination) {
-        return false;
-    }
-    g.seq.0 <= LARGEST_SEQ
+    let s = g.standing;
+    (is_open(s) == (0 < g.ticks))
+        & address::in_range(g.source)
+        & address::in_range(g.destination)
+        & (g.seq.0 <= LARGEST_SEQ)
 }
 
 // Whether the ledger obeys its rules: each leg is right, and no two of their keys are alike.

@@ -27,14 +27,8 @@ fn covers(g: Target, d: Address) -> bool
 fn qualifies(e: Entry, d: Address, arrival: Port) -> bool
     ensures { λ r. ⌜ r ≡ qualifies d arrival e ⌝ }
 {
-    if !e.on {
-        return false;
-    }
-    if e.port.0 == arrival.0 {
-        return false;
-    }
     let g = e.target;
-    covers(g, d)
+    e.on & (e.port.0 != arrival.0) & covers(g, d)
 }
 
 // Out by the first entry that qualifies, or 52.

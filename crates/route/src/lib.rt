@@ -55,13 +55,6 @@ fn own_station(t: Table) -> Station
     }
 }
 
-// Whether the destination is at the table's own station.
-fn is_own(t: Table, d: Address) -> bool
-    ensures { λ r. ⌜ r ≡ isOwn t d ⌝ }
-{
-    address::same_station(own_station(t), address::station_of(d))
-}
-
 // The choice for a table, a destination and a port that were found in range: local, or out, or 52. Only a count past the last place is refused here too, with 50.
 pub fn way(table: Table, destination: Address, arrival: Port) -> Choice
     ensures { λ r. ⌜ r ≡ wayOf table destination arrival ⌝ }
@@ -69,7 +62,7 @@ pub fn way(table: Table, destination: Address, arrival: Port) -> Choice
     if MOST_ENTRIES < table.count {
         return Choice::Refused(50);
     }
-    if is_own(table, destination) {
+    if address::same_station(own_station(table), address::station_of(destination)) {
         let p = destination.port;
         return Choice::Local(p);
     }
@@ -86,10 +79,7 @@ pub fn choose(table: Table, destination: Address, arrival: Port) -> Choice
     if !table_in_range(table) {
         return Choice::Refused(50);
     }
-    if !address::in_range(destination) {
-        return Choice::Refused(51);
-    }
-    if LARGEST_PORT < arrival.0 {
+    if !(address::in_range(destination) & (arrival.0 <= LARGEST_PORT)) {
         return Choice::Refused(51);
     }
     way(table, destination, arrival)

@@ -28,14 +28,8 @@ fn target_in_range(g: Target) -> bool
 fn entry_in_range(e: Entry) -> bool
     ensures { λ r. ⌜ r ≡ entryInRange e ⌝ }
 {
-    if e.port.0 < 1 {
-        return false;
-    }
-    if LARGEST_PORT < e.port.0 {
-        return false;
-    }
     let g = e.target;
-    target_in_range(g)
+    (1 <= e.port.0) & (e.port.0 <= LARGEST_PORT) & target_in_range(g)
 }
 
 // Whether an entry that counts is out of range.
@@ -62,8 +56,5 @@ pub fn table_in_range(t: Table) -> bool
     if MOST_ENTRIES < t.count {
         return false;
     }
-    if !station_in_range(own_station(t)) {
-        return false;
-    }
-    !any_stray(t)
+    station_in_range(own_station(t)) & !any_stray(t)
 }

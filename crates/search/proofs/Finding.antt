@@ -15,9 +15,10 @@ use Rattle.routes.specs.Steps.{leastTry, leastFrom}
 use Rattle.routes.proofs.Next.{orLater, behind, least-here, least-on, try-end, try-cut, try-met, try-over}
 use Rattle.search.specs.Net.{farOf, nodeOf, net, metOf}
 use Rattle.search.specs.Steps.{ifOpen, openOf, orWay, wayFrom, zeros, foundAt}
-use Rattle.search.proofs.Leading.{never, if-open, open-below, open-mark, met-set, sound}
+use Rattle.search.proofs.Leading.{never, far-inside, if-open, open-below, open-mark, met-set, sound, way-by}
 use Rattle.search.specs.declared.Far.{Far}
 use Rattle.search.specs.declared.Far.the-variants.{Node, None}
+use Rattle.search.specs.declared.Way.{Way}
 use Rattle.search.specs.declared.Way.the-variants.{By, End}
 use Rattle.search.specs.declared.Found.{Found}
 
@@ -86,6 +87,25 @@ module _ (ends : List (List ℕ)) (ways : List ℕ) (links to : ℕ) where
           let r = ih q in
           record { from = omega arith; below = r .below; opens = r .opens; same = try-shut met n i (omega arith) p ∙ r .same }
 
+  -- whether the link at place i itself leads on: another is found, or none, or it is the one
+  seek-not : (met : List Bool) (n i : ℕ) {w : Way} → wayFrom (farOf ends ways links) met n i (links - i) ≡ w → ((m : ℕ) → w ≡ By i m → ⊥) → openOf ends ways links met i n ≡ None
+  seek-not met n i e k = go (openOf ends ways links met i n) refl
+    where
+      go : (f : Far) → openOf ends ways links met i n ≡ f → openOf ends ways links met i n ≡ None
+      go None p = p
+      go (Node m) p =
+          let h = far-inside ends ways links i n m (if-open met (farOf ends ways links i n) m p .0) in
+          absurd (k m (sym e ∙ way-by (farOf ends ways links) links met n i m h p))
+
+  pub seek-none : (met : List Bool) (n i : ℕ) → wayFrom (farOf ends ways links) met n i (links - i) ≡ End → openOf ends ways links met i n ≡ None
+  seek-none met n i e = seek-not met n i e (λ m p. never (cc))
+
+  pub seek-past : (met : List Bool) (n i k m : ℕ) → (k ≡ i → ⊥) → wayFrom (farOf ends ways links) met n i (links - i) ≡ By k m → openOf ends ways links met i n ≡ None
+  seek-past met n i k m h e = seek-not met n i e (λ m' p. h (cc))
+
+  pub seek-here : (met : List Bool) (n i k m : ℕ) → k ≡ i → wayFrom (farOf ends ways links) met n i (links - i) ≡ By k m → openOf ends ways links met i n ≡ Node m
+  seek-here met n i k m h e = rw h at (seek-by met n i (links - i) k m refl e .opens)
+
   -- the same with all that the code needs: one node fewer is not met, and the theory takes the link found or goes on after it
   pub record Stepped (met : List Bool) (n i k m : ℕ) : Type 0 where
     pub from : i ≤ k
@@ -129,27 +149,49 @@ shifted d i r =
     (set-at (zeros d) 0 (r ++ zeros (15 - (d + suc (length r)))) i d (length-replicate d 0))
 
 put : ℕ → ℕ → Found → Found
-put d i f = record { ok = f .ok; len = f .len; route = set (f .route) d i }
+put d i f = record { number = f .number; len = f .len; route = set (f .route) d i }
 
 put-route : (d i : ℕ) (r : List ℕ) → put d i (foundAt (d + 1) (route r)) ≡ foundAt d (route (i ∷ r))
 unfolding put
 put-route d i r =
     let p : d + 1 + length r ≡ d + suc (length r) = omega arith in
-    λ j. record { ok = true; len = p j; route = shifted d i r j }
+    λ j. record { number = 0; len = p j; route = shifted d i r j }
 
--- an answer found goes before the rest, and one not found leaves the rest
-pub found-put : (d i : ℕ) (o rest : Answer) (w : Found) → w ≡ foundAt (d + 1) o → w .ok ≡ true
-    → _≡_ {A = Found} (record { ok = w .ok; len = w .len; route = set (w .route) d i }) (foundAt d (orLater (behind i o) rest))
-unfolding put orLater behind
-found-put d i noMore rest w e k = let z : true ≡ false = sym k ∙ ap (λ (f : Found). f .ok) e in never (cc)
-found-put d i noRoute rest w e k = let z : true ≡ false = sym k ∙ ap (λ (f : Found). f .ok) e in never (cc)
-found-put d i (route r) rest w e k = ap (put d i) e ∙ put-route d i r
+-- an answer that was found, with its link before it, goes before the rest; one that was not leaves the rest; of what is no route nothing follows
+module _ (d i : ℕ) (o rest : Answer) (w : Found) (e : w ≡ foundAt (d + 1) o) where
+  number-of : w .number ≡ foundAt (d + 1) o .number
+  number-of = ap (λ (f : Found). f .number) e
 
-pub found-none : (d i : ℕ) (o rest : Answer) (w : Found) → (o ≡ noRoute → ⊥) → w ≡ foundAt (d + 1) o → w .ok ≡ false → orLater (behind i o) rest ≡ rest
-unfolding orLater behind
-found-none d i noMore rest w n e k = refl
-found-none d i noRoute rest w n e k = absurd (n refl)
-found-none d i (route r) rest w n e k = let z : true ≡ false = sym (ap (λ (f : Found). f .ok) e) ∙ k in never (cc)
+  pub known-by : (w .number ≡ 41 → ⊥) → o ≡ noRoute → ⊥
+  known-by k q = k (number-of ∙ ap (λ (p : Answer). foundAt (d + 1) p .number) q)
+
+  pub found-put : (o ≡ noRoute → ⊥) → (w .number ≡ 43 → ⊥)
+      → _≡_ {A = Found} (record { number = w .number; len = w .len; route = set (w .route) d i }) (foundAt d (orLater (behind i o) rest))
+  unfolding put orLater behind
+  found-put n k = go o e n number-of
+    where
+      go : (o : Answer) → w ≡ foundAt (d + 1) o → (o ≡ noRoute → ⊥) → w .number ≡ foundAt (d + 1) o .number → put d i w ≡ foundAt d (orLater (behind i o) rest)
+      go noMore e n q = absurd (k q)
+      go noRoute e n q = absurd (n refl)
+      go (route r) e n q = ap (put d i) e ∙ put-route d i r
+
+  pub found-none : w .number ≡ 43 → orLater (behind i o) rest ≡ rest
+  unfolding orLater behind
+  found-none k = go o number-of
+    where
+      go : (o : Answer) → w .number ≡ foundAt (d + 1) o .number → orLater (behind i o) rest ≡ rest
+      go noMore q = refl
+      go noRoute q = absurd (omega (arith, q, k))
+      go (route r) q = absurd (omega (arith, q, k))
+
+  pub found-not : w .number ≡ 41 → w ≡ foundAt d (orLater (behind i o) rest)
+  unfolding orLater behind
+  found-not k = go o e number-of
+    where
+      go : (o : Answer) → w ≡ foundAt (d + 1) o → w .number ≡ foundAt (d + 1) o .number → w ≡ foundAt d (orLater (behind i o) rest)
+      go noMore e q = absurd (omega (arith, q, k))
+      go noRoute e q = e
+      go (route r) e q = absurd (omega (arith, q, k))
 
 -- the first of a list is never 'no route was given'
 pub first-some : (l : List (List ℕ)) → firstOf l ≡ noRoute → ⊥
@@ -158,12 +200,12 @@ first-some [] e = never (cc)
 first-some (r ∷ l) e = never (cc)
 
 -- the empty route from place d on is all zeros
-pub found-here : (d : ℕ) → d ≤ 15 → _≡_ {A = Found} (record { ok = true; len = d; route = zeros 15 }) (foundAt d (route []))
+pub found-here : (d : ℕ) → d ≤ 15 → _≡_ {A = Found} (record { number = 0; len = d; route = zeros 15 }) (foundAt d (route []))
 found-here d h =
     let p : d ≡ d + 0 = omega arith in
     let q : d + (15 - (d + 0)) ≡ 15 = omega arith in
     let r : zeros 15 ≡ zeros d ++ zeros (15 - (d + 0)) = sym (zeros-add d (15 - (d + 0)) ∙ ap zeros q) in
-    λ j. record { ok = true; len = p j; route = r j }
+    λ j. record { number = 0; len = p j; route = r j }
 
 pub found-len : (d : ℕ) (o : Answer) (f : Found) → f ≡ foundAt d o → length (f .route) ≡ 15 → f .len ≤ 15
 found-len d noMore f e h = rw e (lit≤ tt)

@@ -1,26 +1,23 @@
--- A given route, read link by link from its place d on: whether it is one, and the one after it. Each branch of the code is one law.
+-- A given route, read link by link from its place d on: whether it is one, and what follows it. Each branch of the code is one law.
 use mathlib.Core.Path.{_≡_, refl, sym, ap, _∙_}
-use mathlib.Core.Bool.{Bool, true, false, not, cond, _&&_}
-use mathlib.Core.Logic.{_⊎_, inl, inr}
+use mathlib.Core.Bool.{Bool, true, false, not, cond, _&&_, _||_}
 use mathlib.Core.Option.{some}
-use mathlib.Core.List.{List, [], _∷_, List·Memᴰ, List·Memᴰ·cases-cons, List·Memᴰ·not-nil}
+use mathlib.Core.List.{List, [], _∷_}
 use Prim.Native.Nat.{ℕ, suc, _+_, _<_, _≤_}
 use native.Mathlib.Numerals.{add-one}
-use borrow.Author.Tests.{eqb-true, eq-eqb, ne-eqb, lt-ltb}
+use borrow.Author.Tests.{leb-true, leb-false, eqb-true, eqb-false, eq-eqb, ne-eqb, lt-ltb}
 use lib.ListN.{length, getD, set, drop, drop-of-length-le}
 use lib.Seq.{drop-cons}
-use lib.Dec.{eqb, ltb}
-use Rattle.lists.proofs.Bools.{both-ways}
+use lib.Dec.{eqb, leb, ltb}
+use Rattle.lists.proofs.Bools.{and-left, and-right, or-no-left, or-no-right, both-ways}
 use Rattle.routes.specs.Route.{Net, also}
-use Rattle.routes.specs.All.{unmet, allFrom, noMore, noRoute, firstOf, sameLinks, nextOf}
+use Rattle.routes.specs.All.{unmet, allFrom, Answer, noMore, noRoute, firstOf, nextOf}
 use Rattle.routes.specs.Steps.{leastTry, goesOn, isRoute}
-use Rattle.routes.proofs.Tests.{either, same-yes, same-of}
-use Rattle.routes.proofs.Laws.{all-here, all-are}
-use Rattle.routes.proofs.Next.{orLater, behind, next-found, next-past, next-on, isRoute-yes}
+use Rattle.routes.proofs.Laws.{all-here, all-sound}
+use Rattle.routes.proofs.Next.{orLater, behind, next-found, next-absent, next-on, isRoute-yes, isRoute-of}
 use Rattle.search.specs.Net.{farOf, nodeOf, net, metOf}
 use Rattle.search.specs.Steps.{ifOpen, openOf}
 use Rattle.search.proofs.Leading.{never, far-inside, if-open, open-mark, met-set, sound}
-use Rattle.search.proofs.Finding.{first-some}
 use Rattle.search.specs.declared.Far.{Far}
 use Rattle.search.specs.declared.Far.the-variants.{Node, None}
 
@@ -28,15 +25,15 @@ module _ (ends : List (List ℕ)) (ways : List ℕ) (links to : ℕ) (r : List �
   abbrev H : Net
   H = net ends ways links to
 
-  pub route-end : length r ≤ d → isRoute H n (metOf met) (drop d r) ≡ eqb n to
+  route-end : length r ≤ d → isRoute H n (metOf met) (drop d r) ≡ eqb n to
   unfolding isRoute
   route-end h = rw (drop-of-length-le r h)
 
-  pub route-arrived : d < length r → n ≡ to → isRoute H n (metOf met) (drop d r) ≡ false
+  route-arrived : d < length r → n ≡ to → isRoute H n (metOf met) (drop d r) ≡ false
   unfolding isRoute
   route-arrived h e = rw (drop-cons r d 0 h, eq-eqb n to e)
 
-  pub route-off : d < length r → (n ≡ to → ⊥) → openOf ends ways links met (getD r d 0) n ≡ None → isRoute H n (metOf met) (drop d r) ≡ false
+  route-off : d < length r → (n ≡ to → ⊥) → openOf ends ways links met (getD r d 0) n ≡ None → isRoute H n (metOf met) (drop d r) ≡ false
   unfolding isRoute goesOn
   route-off h e f = rw (drop-cons r d 0 h, ne-eqb n to e) (go (ltb (getD r d 0) links) (farOf ends ways links (getD r d 0) n) f)
     where
@@ -51,66 +48,80 @@ module _ (ends : List (List ℕ)) (ways : List ℕ) (links to : ℕ) (r : List �
           test true t q = simp t
           test false t q = never (cc)
 
-  pub route-on : (m : ℕ) → d < length r → (n ≡ to → ⊥) → m < length met → openOf ends ways links met (getD r d 0) n ≡ Node m
+  route-on : (m : ℕ) → d < length r → (n ≡ to → ⊥) → m < length met → openOf ends ways links met (getD r d 0) n ≡ Node m
       → isRoute H n (metOf met) (drop d r) ≡ isRoute H m (metOf (set met m true)) (drop (d + 1) r)
   unfolding isRoute goesOn
   route-on m h e lt f =
       let q = if-open met (farOf ends ways links (getD r d 0) n) m f in
       rw (drop-cons r d 0 h, ne-eqb n to e, lt-ltb (getD r d 0) links (far-inside ends ways links (getD r d 0) n m (q .0)), q .0, q .1, met-set met m lt, add-one d)
 
-  -- a route that goes on from here
-  pub route-goes : d < length r → isRoute H n (metOf met) (drop d r) ≡ true → n ≡ to → ⊥
-  route-goes h e q = both-ways e (route-arrived h q)
-
-  pub route-open : d < length r → isRoute H n (metOf met) (drop d r) ≡ true → openOf ends ways links met (getD r d 0) n ≡ None → ⊥
-  route-open h e q = both-ways e (route-off h (route-goes h e) q)
-
 -- ---- the route after a given one
-
--- of a member the list tells what follows
-pub next-there : (l : List (List ℕ)) (r : List ℕ) → List·Memᴰ r l → nextOf l r ≡ noRoute → ⊥
-next-there [] r m e = List·Memᴰ·not-nil m
-next-there (s ∷ l) r m e = go (λ k q. next-there l r k q) (either (sameLinks s r)) (List·Memᴰ·cases-cons m)
-  where
-    go : (List·Memᴰ r l → nextOf l r ≡ noRoute → ⊥) → (sameLinks s r ≡ true) ⊎ (sameLinks s r ≡ false) → (r ≡ s) ⊎ List·Memᴰ r l → ⊥
-    go below (inl p) w = first-some l (sym (next-found s l r (same-yes s r p)) ∙ e)
-    go below (inr p) (inl q) = both-ways (same-of s r (sym q)) p
-    go below (inr p) (inr k) = below k (sym (next-past s l r p) ∙ e)
 
 module _ (ends : List (List ℕ)) (ways : List ℕ) (links to : ℕ) where
   abbrev K : Net
   K = net ends ways links to
 
-  pub next-known : (n : ℕ) (mt : ℕ → Bool) (r : List ℕ) → isRoute K n mt r ≡ true → nextOf (allFrom K n mt) r ≡ noRoute → ⊥
-  next-known n mt r h e = next-there (allFrom K n mt) r (all-are K (sound ends ways links to) n mt r .1 (isRoute-yes K n mt r h)) e
+  -- after what is no route there is none
+  not-route : (n : ℕ) (mt : ℕ → Bool) (r : List ℕ) → isRoute K n mt r ≡ false → nextOf (allFrom K n mt) r ≡ noRoute
+  not-route n mt r h = next-absent (allFrom K n mt) r (λ m. both-ways (isRoute-of K (all-sound K n mt r m)) h)
 
-  later-step : (n i m : ℕ) (mt : ℕ → Bool) (rest : List ℕ) → (n ≡ to → ⊥) → i < links → K .far i n ≡ some m → mt m ≡ false → isRoute K m (also m mt) rest ≡ true
+  -- after i and a route from where it leads: that after the route, or else the least that begins with a later link
+  later-step : (n i m : ℕ) (mt : ℕ → Bool) (rest : List ℕ) → (n ≡ to → ⊥) → i < links → K .far i n ≡ some m → mt m ≡ false
+      → isRoute K n mt (i ∷ rest) ≡ isRoute K m (also m mt) rest
       → nextOf (allFrom K n mt) (i ∷ rest) ≡ orLater (behind i (nextOf (allFrom K m (also m mt)) rest)) (leastTry K n mt (suc i))
-  later-step n i m mt rest ne l e f h = next-on K (sound ends ways links to) n i m mt rest ne l e f (isRoute-yes K m (also m mt) rest h)
+  unfolding orLater behind
+  later-step n i m mt rest ne l e f same = go (isRoute K m (also m mt) rest) refl
+    where
+      go : (b : Bool) → isRoute K m (also m mt) rest ≡ b
+          → nextOf (allFrom K n mt) (i ∷ rest) ≡ orLater (behind i (nextOf (allFrom K m (also m mt)) rest)) (leastTry K n mt (suc i))
+      go true h = next-on K (sound ends ways links to) n i m mt rest ne l e f (isRoute-yes K m (also m mt) rest h)
+      go false h = not-route n mt (i ∷ rest) (same ∙ h) ∙ sym (ap (λ a. orLater (behind i a) (leastTry K n mt (suc i))) (not-route m (also m mt) rest h))
 
   module _ (r : List ℕ) (d : ℕ) (met : List Bool) (n : ℕ) where
-    pub later-end : length r ≤ d → isRoute K n (metOf met) (drop d r) ≡ true → nextOf (allFrom K n (metOf met)) (drop d r) ≡ noMore
+    -- what follows r, whose first d links led to the node n
+    abbrev pub after : Answer
+    after = nextOf (allFrom (net ends ways links to) n (metOf met)) (drop d r)
+
+    -- its end is the goal; or it ends elsewhere, or goes on from the goal; or its next link does not lead on
+    pub later-end : (leb (length r) d && eqb n to) ≡ true → after ≡ noMore
     unfolding firstOf
-    later-end h e =
-        let q : eqb n to ≡ true = sym (route-end ends ways links to r d met n h) ∙ e in
-        rw (drop-of-length-le r h, all-here K n (metOf met) (eqb-true n to q)) (next-found [] [] [] refl)
+    later-end e =
+        let h = leb-true (length r) d (and-left _ _ e) in
+        let q = eqb-true n to (and-right (leb (length r) d) _ e) in
+        rw (drop-of-length-le r h, all-here K n (metOf met) q) (next-found [] [] [] refl)
 
-    pub record Later (m : ℕ) : Type 0 where
-      pub fewer : suc (unmet 16 (metOf (set met m true))) ≡ unmet 16 (metOf met)
-      pub good : isRoute (net ends ways links to) m (metOf (set met m true)) (drop (d + 1) r) ≡ true
-      pub says : nextOf (allFrom (net ends ways links to) n (metOf met)) (drop d r)
-          ≡ orLater (behind (getD r d 0) (nextOf (allFrom (net ends ways links to) m (metOf (set met m true))) (drop (d + 1) r))) (leastTry (net ends ways links to) n (metOf met) (getD r d 0 + 1))
+    pub later-stray : (leb (length r) d && eqb n to) ≡ false → (leb (length r) d || eqb n to) ≡ true → after ≡ noRoute
+    later-stray e o = go (leb (length r) d) refl (eqb n to) refl e o
+      where
+        go : (x : Bool) → leb (length r) d ≡ x → (y : Bool) → eqb n to ≡ y → (x && y) ≡ false → (x || y) ≡ true → after ≡ noRoute
+        go true p true q e o = absurd (both-ways refl e)
+        go true p false q e o = not-route n (metOf met) (drop d r) (route-end ends ways links to r d met n (leb-true (length r) d p) ∙ q)
+        go false p true q e o = not-route n (metOf met) (drop d r) (route-arrived ends ways links to r d met n (leb-false (length r) d p) (eqb-true n to q))
+        go false p false q e o = absurd (both-ways o refl)
 
-    pub later-on : (m : ℕ) → d < length r → m < length met → openOf ends ways links met (getD r d 0) n ≡ Node m → isRoute K n (metOf met) (drop d r) ≡ true → Later m
-    later-on m h lt f e =
-        let i = getD r d 0 in
-        let ne = route-goes ends ways links to r d met n h e in
-        let q = if-open met (farOf ends ways links i n) m f in
-        let g : isRoute K m (metOf (set met m true)) (drop (d + 1) r) ≡ true = sym (route-on ends ways links to r d met n m h ne lt f) ∙ e in
-        let g′ : isRoute K m (also m (metOf met)) (drop (suc d) r) ≡ true = rw (met-set met m lt, add-one d) at g in
-        let s = later-step n i m (metOf met) (drop (suc d) r) ne (far-inside ends ways links i n m (q .0)) (ap nodeOf (q .0)) (q .1) g′ in
-        record {
-          fewer = open-mark ends ways links met i n m lt f;
-          good = g;
-          says = rw (drop-cons r d 0 h, met-set met m lt, add-one d, add-one i) s;
-        }
+    module _ (goes : (leb (length r) d || eqb n to) ≡ false) where
+      pub more : d < length r
+      more = leb-false (length r) d (or-no-left (leb (length r) d) (eqb n to) goes)
+
+      on : n ≡ to → ⊥
+      on = eqb-false n to (or-no-right (leb (length r) d) (eqb n to) goes)
+
+      pub later-off : openOf ends ways links met (getD r d 0) n ≡ None → after ≡ noRoute
+      later-off f = not-route n (metOf met) (drop d r) (route-off ends ways links to r d met n more on f)
+
+      pub record Later (m : ℕ) : Type 0 where
+        pub fewer : suc (unmet 16 (metOf (set met m true))) ≡ unmet 16 (metOf met)
+        pub says : nextOf (allFrom (net ends ways links to) n (metOf met)) (drop d r)
+            ≡ orLater (behind (getD r d 0) (nextOf (allFrom (net ends ways links to) m (metOf (set met m true))) (drop (d + 1) r))) (leastTry (net ends ways links to) n (metOf met) (getD r d 0 + 1))
+
+      pub later-on : (m : ℕ) → m < length met → openOf ends ways links met (getD r d 0) n ≡ Node m → Later m
+      later-on m lt f =
+          let i = getD r d 0 in
+          let q = if-open met (farOf ends ways links i n) m f in
+          let same : isRoute K n (metOf met) (i ∷ drop (suc d) r) ≡ isRoute K m (also m (metOf met)) (drop (suc d) r) =
+          rw (← drop-cons r d 0 more, ← met-set met m lt, ← add-one d) (route-on ends ways links to r d met n m more on lt f) in
+          let s = later-step n i m (metOf met) (drop (suc d) r) on (far-inside ends ways links i n m (q .0)) (ap nodeOf (q .0)) (q .1) same in
+          record {
+            fewer = open-mark ends ways links met i n m lt f;
+            says = rw (drop-cons r d 0 more, met-set met m lt, add-one d, add-one i) s;
+          }

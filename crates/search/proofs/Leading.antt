@@ -7,7 +7,7 @@ use mathlib.Core.List.{List, []}
 use Prim.Native.Nat.{ℕ, zero, suc, _+_, _-_, _<_, _≤_}
 use native.Mathlib.Numerals.{add-one}
 use native.Mathlib.Omega.{arith}
-use borrow.Author.Tests.{eqb-true, eqb-false, eq-eqb, ne-eqb, lt-ltb, le-ltb, ltb-true}
+use borrow.Author.Tests.{eqb-true, eqb-false, eq-eqb, ne-eqb, lt-ltb, ltb-true}
 use lib.ListN.{length, getD, set, replicate}
 use lib.Seq.{getD-set-same, getD-set-other}
 use lib.Dec.{eqb, ltb}
@@ -64,10 +64,6 @@ module _ (ends : List (List ℕ)) (ways : List ℕ) (links : ℕ) where
   pub far-in : (i at : ℕ) → i < links → farOf ends ways links i at ≡ otherOf (getD ends i []) (getD ways i 0) at
   unfolding farOf
   far-in i at h = rw (lt-ltb i links h)
-
-  pub far-out : (i at : ℕ) → links ≤ i → farOf ends ways links i at ≡ None
-  unfolding farOf
-  far-out i at h = rw (le-ltb i links h)
 
   pub far-below : (i at n : ℕ) → farOf ends ways links i at ≡ Node n → n < 16
   unfolding farOf otherOf

@@ -1,26 +1,23 @@
 -- What first and next answer: each refusal in its turn, and a route that was found is the one that the list of all routes has.
 use mathlib.Core.Path.{_≡_, refl, sym, ap, _∙_}
-use mathlib.Core.Bool.{Bool, false}
+use mathlib.Core.Bool.{Bool}
 use mathlib.Core.List.{List}
 use Prim.Native.Nat.{ℕ, zero, suc, _-_, _<_, _≤_}
 use native.Mathlib.Nat.{zero-add}
 use borrow.Author.Tests.{lt-ltb, le-ltb, le-leb, lt-leb}
 use lib.ListN.{length, take}
-use lib.Seq.{take-append-seam}
+use lib.Seq.{sets, take-append-seam}
 use Rattle.lists.specs.Refusals.{unlessRefused}
-use Rattle.lists.proofs.Bools.{both-ways}
+use Rattle.lists.proofs.Refusals.{taken, refused}
 use Rattle.routes.specs.All.{allFrom, allRoutes, Answer, route, noMore, noRoute, firstOf, nextOf}
-use Rattle.routes.specs.Steps.{leastFrom, isRoute}
-use Rattle.routes.proofs.Laws.{all-sound}
-use Rattle.routes.proofs.Next.{next-absent, isRoute-of}
+use Rattle.routes.specs.Steps.{leastFrom}
 use Rattle.search.specs.declared.Traced.{Traced}
-use Rattle.search.specs.declared.Traced.the-variants.{Refused}
+use Rattle.search.specs.declared.Traced.the-variants.{Route, Refused}
 use Rattle.search.specs.declared.Found.{Found}
 use Rattle.search.specs.Net.{net, metOf, onlyMet}
 use Rattle.search.specs.Answers.{tracedNumber, tracedLength, answerNumber, answerRoute, Told, told, firstRefusal, nextRefusal, firstRoute, nextRoute, placesNumber, routesIn, firstRefusalIn, nextRefusalIn, firstIn, nextIn}
 use Rattle.search.specs.Steps.{zeros, foundAt, handedOver}
 use Rattle.search.proofs.Leading.{only-flags}
-use Rattle.search.proofs.Finding.{first-some}
 
 -- ---- an answer's parts
 
@@ -59,11 +56,20 @@ refusing number k r buf e = as-told number r buf (refusal (suc k) buf) (rw e)
 
 -- ---- what was found
 
-pub found-told : (o : Answer) (buf : List ℕ) → (o ≡ noRoute → ⊥) → handedOver (foundAt 0 o) buf ≡ told (answerNumber o) (answerRoute o) buf
+-- by the number: a refusal, or the route
+pub handed-none : (f : Found) (buf : List ℕ) → (f .number ≡ 0 → ⊥) → refusal (f .number) buf ≡ handedOver f buf
+unfolding handedOver
+handed-none f buf h = sym (refused _ _ (f .number) h)
+
+pub handed-route : (f : Found) (buf : List ℕ) → f .number ≡ 0 → record { answer = Route (f .len); bytes = sets buf 0 (take (f .len) (f .route)) } ≡ handedOver f buf
+unfolding handedOver
+handed-route f buf h = sym (taken _ _ h)
+
+pub found-told : (o : Answer) (buf : List ℕ) → handedOver (foundAt 0 o) buf ≡ told (answerNumber o) (answerRoute o) buf
 unfolding handedOver answerNumber answerRoute told unlessRefused
-found-told noMore buf n = refl
-found-told noRoute buf n = absurd (n refl)
-found-told (route r) buf n = rw (zero-add (length r), take-append-seam r (zeros (15 - length r)))
+found-told noMore buf = refl
+found-told noRoute buf = refl
+found-told (route r) buf = rw (zero-add (length r), take-append-seam r (zeros (15 - length r)))
 
 -- ---- the numbers, one at a time
 
@@ -157,12 +163,6 @@ module _ (ends : List (List ℕ)) (ways : List ℕ) (links from to : ℕ) where
     unfolding leastFrom
     first-join met e = ap firstOf (all-join met e)
 
-    pub not-route : (met : List Bool) (r : List ℕ) → met ≡ onlyMet from → isRoute (net ends ways links to) from (metOf met) r ≡ false → nextOf rs r ≡ noRoute
-    not-route met r e h =
-        let G = net ends ways links to in
-        ap (λ l. nextOf l r) (sym (all-join met e))
-        ∙ next-absent (allFrom G from (metOf met)) r (λ m. both-ways (isRoute-of G (all-sound G from (metOf met) r m)) h)
-
     pub first-small : (buf : List ℕ) → length buf < 15 → FirstGives buf (refusal 42 buf)
     first-small buf h = first-refuses 41 buf (first-numbered buf ∙ first-short rs buf h)
 
@@ -172,22 +172,18 @@ module _ (ends : List (List ℕ)) (ways : List ℕ) (links from to : ℕ) where
     pub next-over : (buf : List ℕ) (n : ℕ) → 15 ≤ length buf → 15 < n → NextGives buf n (refusal 41 buf)
     next-over buf n h k = next-refuses 40 buf n (next-numbered buf n ∙ next-long rs buf n h k)
 
-    pub next-none : (buf : List ℕ) (n : ℕ) → 15 ≤ length buf → n ≤ 15 → nextOf rs (take n buf) ≡ noRoute → NextGives buf n (refusal 41 buf)
-    unfolding answerNumber
-    next-none buf n h k e = next-refuses 40 buf n (next-numbered buf n ∙ next-room rs buf n h k ∙ ap answerNumber e)
-
     -- what was found is told
     pub first-told : (buf : List ℕ) (f : Found) → 15 ≤ length buf → f ≡ foundAt 0 (firstOf rs) → FirstGives buf (handedOver f buf)
     unfolding firstIn
     first-told buf f h e =
         let w : firstRefusalIn ends ways links from to buf ≡ answerNumber (firstOf rs) = first-numbered buf ∙ first-room rs buf h in
         as-told (firstRefusalIn ends ways links from to buf) (firstRoute rs) buf (handedOver f buf)
-        (ap (λ (g : Found). handedOver g buf) e ∙ found-told (firstOf rs) buf (first-some rs) ∙ ap (λ (k : ℕ). told k (firstRoute rs) buf) (sym w))
+        (ap (λ (g : Found). handedOver g buf) e ∙ found-told (firstOf rs) buf ∙ ap (λ (k : ℕ). told k (firstRoute rs) buf) (sym w))
 
-    pub next-told : (buf : List ℕ) (n : ℕ) (f : Found) → 15 ≤ length buf → n ≤ 15 → (nextOf rs (take n buf) ≡ noRoute → ⊥)
+    pub next-told : (buf : List ℕ) (n : ℕ) (f : Found) → 15 ≤ length buf → n ≤ 15
         → f ≡ foundAt 0 (nextOf rs (take n buf)) → NextGives buf n (handedOver f buf)
     unfolding nextIn
-    next-told buf n f h k known e =
+    next-told buf n f h k e =
         let w : nextRefusalIn ends ways links from to buf n ≡ answerNumber (nextOf rs (take n buf)) = next-numbered buf n ∙ next-room rs buf n h k in
         as-told (nextRefusalIn ends ways links from to buf n) (nextRoute rs buf n) buf (handedOver f buf)
-        (ap (λ (g : Found). handedOver g buf) e ∙ found-told (nextOf rs (take n buf)) buf known ∙ ap (λ (j : ℕ). told j (nextRoute rs buf n) buf) (sym w))
+        (ap (λ (g : Found). handedOver g buf) e ∙ found-told (nextOf rs (take n buf)) buf ∙ ap (λ (j : ℕ). told j (nextRoute rs buf n) buf) (sym w))

@@ -4,6 +4,7 @@ use mathlib.Core.Bool.{Bool, true, false, cond}
 use mathlib.Core.List.{List, _++_}
 use lib.ListN.{length, getD, take, replicate}
 use lib.Seq.{sets}
+use Rattle.lists.specs.Refusals.{unlessRefused}
 use Rattle.routes.specs.All.{Answer, route, noMore, noRoute}
 use Rattle.search.specs.declared.Traced.the-variants.{Route, Refused}
 use Rattle.search.specs.declared.Far.{Far}
@@ -37,19 +38,19 @@ wayFrom step met n i (suc k) = orWay i (ifOpen met (step i n)) (wayFrom step met
 abbrev pub zeros : ℕ → List ℕ
 zeros n = replicate n 0
 
--- nothing found
-abbrev pub notFound : Found
-notFound = record { ok = false; len = 0; route = zeros longestRoute }
+-- nothing found: the refusal's number
+abbrev pub notFound : ℕ → Found
+notFound number = record { number = number; len = 0; route = zeros longestRoute }
 
 -- a route as the code holds it: from place d of an array of 15 on, the rest 0
 abbrev pub foundAt : ℕ → Answer → Found
-foundAt d (route r) = record { ok = true; len = d + length r; route = zeros d ++ (r ++ zeros (longestRoute - (d + length r))) }
-foundAt d noMore = notFound
-foundAt d noRoute = notFound
+foundAt d (route r) = record { number = 0; len = d + length r; route = zeros d ++ (r ++ zeros (longestRoute - (d + length r))) }
+foundAt d noMore = notFound 43
+foundAt d noRoute = notFound 41
 
--- what was found, in the buffer; 43 where nothing was
+-- what was found, in the buffer; where nothing was, the refusal
 unfoldable pub handedOver : Found → List ℕ → Told
 handedOver f buf =
-    cond (f .ok)
+    unlessRefused (f .number)
     (record { answer = Route (f .len); bytes = sets buf 0 (take (f .len) (f .route)) })
-    (record { answer = Refused 43; bytes = buf })
+    (record { answer = Refused (f .number); bytes = buf })

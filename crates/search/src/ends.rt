@@ -5,7 +5,7 @@ use crate::Way;
 ghost use mathlib.Core.Path.{_≡_};
 ghost use Prim.Native.Nat.{_-_, _≤_};
 ghost use Rattle.search.specs.Net.{nodePlace, otherOf, farOf};
-ghost use Rattle.search.specs.Steps.{openOf, wayFrom};
+ghost use Rattle.search.specs.Steps.{wayFrom};
 
 // The node at a place, if it is a node's place.
 fn node_place(n: u8) -> Far
@@ -18,7 +18,7 @@ fn node_place(n: u8) -> Far
 }
 
 // The other end of a link from the node at, if the link is passed and has an end there.
-pub fn other_end(e: [u8; 2], way: u8, at: u8) -> Far
+fn other_end(e: [u8; 2], way: u8, at: u8) -> Far
     ensures { λ r. ⌜ r ≡ otherOf e way at ⌝ }
 {
     if way != 1 {
@@ -33,41 +33,6 @@ pub fn other_end(e: [u8; 2], way: u8, at: u8) -> Far
         return node_place(a);
     }
     Far::None
-}
-
-// The far end of link i from the node at, if there is such a link.
-fn far_end(ends: [[u8; 2]; 48], ways: [u8; 48], links: usize, i: usize, at: u8) -> Far
-    requires { ⌜ links ≤ 48 ⌝ }
-    ensures { λ r. ⌜ r ≡ farOf ends ways links i at ⌝ }
-{
-    if links <= i {
-        return Far::None;
-    }
-    other_end(ends[i], ways[i], at)
-}
-
-// The far end of link i from the node at, if it is not met yet.
-pub fn open_end(
-    ends: [[u8; 2]; 48],
-    ways: [u8; 48],
-    links: usize,
-    met: [bool; 16],
-    i: usize,
-    at: u8,
-) -> Far
-    requires { ⌜ links ≤ 48 ⌝ }
-    ensures { λ r. ⌜ r ≡ openOf ends ways links met i at ⌝ }
-{
-    let f = far_end(ends, ways, links, i, at);
-    let Far::Node(n) = f else {
-        return Far::None;
-    };
-    let k = n as usize;
-    let old = met[k];
-    if old {
-        return Far::None;
-    }
-    Far::Node(n)
 }
 
 // The first link at place i or later that leads from the node at to a node that is not met.

@@ -1,12 +1,10 @@
 // The search for routes over what the trace keeps by value (document 01, "Routes and their order"): the two ends of each link as node places,
 // the way each link is passed, and the nodes met. It knows no chart: any arrays get an answer.
 use given::later;
-use given::route_from;
 use walking::walk_on;
 ghost use mathlib.Core.Path.{_≡_};
 ghost use Prim.Native.Nat.{_≤_, _<_};
-ghost use lib.ListN.{length, take};
-ghost use lib.Seq.{sets};
+ghost use lib.ListN.{length};
 ghost use Rattle.lists.specs.Refusals.{unlessRefused};
 ghost use Rattle.search.specs.Net.{onlyMet};
 ghost use Rattle.search.specs.Steps.{handedOver};
@@ -40,9 +38,9 @@ pub enum Way {
     End,
 }
 
-// A route, of which the links from some place on are filled in, with its whole length; or none.
+// A route, of which the links from some place on are filled in, with its whole length and the number 0; or the number of a refusal.
 pub struct Found {
-    pub ok: bool,
+    pub number: u8,
     pub len: usize,
     pub route: [u8; 15],
 }
@@ -58,26 +56,17 @@ fn only_met(a: u8) -> [bool; 16]
     met
 }
 
-// Writes the first n links of the route at the start of the buffer, and no more.
-fn put_route(route: [u8; 15], n: usize, buf: &mut [u8])
-    requires { ⌜ n ≤ 15 ⌝ }
-    ensures { λ _. ⌜ now (buf .exit) ≡ sets (now (buf .entry)) 0 (take n route) ⌝ }
-{
-    lists::put_all(buf, 0, &route[..n]);
-}
-
-// Writes what was found, if something was.
+// Writes the route that was found, if one was.
 fn hand_over(f: Found, buf: &mut [u8]) -> Traced
-    requires { ⌜ f .len ≤ 15 ⌝ }
+    requires { ⌜ f .len ≤ 15 ⌝ ∗ ⌜ length (f .route) ≡ 15 ⌝ }
     ensures { λ t. ⌜ (t ≡ handedOver f (now (buf .entry)) .answer) × (now (buf .exit) ≡ handedOver f (now (buf .entry)) .bytes) ⌝ }
 {
-    let ok = f.ok;
-    if !ok {
-        return Traced::Refused(43);
+    if f.number != 0 {
+        return Traced::Refused(f.number);
     }
     let n = f.len;
     let route = f.route;
-    put_route(route, n, buf);
+    lists::put_all(buf, 0, &route[..n]);
     Traced::Route(n as u8)
 }
 
@@ -138,20 +127,6 @@ pub fn next_route(
     }
     let met = only_met(from);
     let r = &buf[..given];
-    let good = route_from(ends, ways, links, to, r, from, met, 0);
-    if !good {
-        return Traced::Refused(41);
-    }
     let f = later(ends, ways, links, to, r, from, met, 0);
     hand_over(f, buf)
-}
-
-// Document 01's number of an answer: 0 beside a route.
-pub fn traced_number(answer: Traced) -> u8
-    ensures { λ r. ⌜ r ≡ tracedNumber answer ⌝ }
-{
-    match answer {
-        Traced::Route(_) => 0,
-        Traced::Refused(number) => number,
-    }
 }

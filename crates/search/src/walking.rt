@@ -10,12 +10,12 @@ ghost use Rattle.routes.specs.Steps.{leastTry, leastFrom};
 ghost use Rattle.search.specs.Net.{metOf, net};
 ghost use Rattle.search.specs.Steps.{notFound, foundAt};
 
-// Nothing found.
-pub fn nothing() -> Found
-    ensures { λ r. ⌜ r ≡ notFound ⌝ }
+// Nothing found, and why.
+pub fn nothing(number: u8) -> Found
+    ensures { λ r. ⌜ r ≡ notFound number ⌝ }
 {
     Found {
-        ok: false,
+        number,
         len: 0,
         route: [0u8; 15],
     }
@@ -37,18 +37,17 @@ pub fn try_links(
 {
     let w = seek(ends, ways, links, at, met, i);
     let Way::By(k, n) = w else {
-        return nothing();
+        return nothing(43);
     };
     let m = n as usize;
     let mut then = met;
     then[m] = true;
     let mut f = walk_on(ends, ways, links, to, n, then, d + 1);
-    let ok = f.ok;
-    if ok {
-        f.route[d] = k as u8;
-        return f;
+    if f.number == 43 {
+        return try_links(ends, ways, links, to, at, met, k + 1, d);
     }
-    try_links(ends, ways, links, to, at, met, k + 1, d)
+    f.route[d] = k as u8;
+    f
 }
 
 // The least route on from the node at, which is marked met; d links come before it.
@@ -66,7 +65,7 @@ pub fn walk_on(
 {
     if at == to {
         return Found {
-            ok: true,
+            number: 0,
             len: d,
             route: [0u8; 15],
         };

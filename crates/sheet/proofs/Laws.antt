@@ -29,7 +29,7 @@ use Rattle.chart_net.proofs.Places.{place-few}
 use Rattle.chart_net.proofs.Promises.{routes-kept, accepted-ends}
 use Rattle.text.specs.Laying.{Laid, last}
 use Rattle.text.proofs.Joining.{_▸_, said}
-use Rattle.sheet_lines.specs.Lines.{refusedLine}
+use Rattle.sheet_numbers.specs.Lines.{refusedLine}
 use Rattle.sheet_routes.specs.Listing.{routesHeld}
 use Rattle.sheet.specs.Sheet.{longLine, place, lineAt, chartText, readText, sheetText, sheetRefusal, sheetWriteOf, sheetAfter}
 

@@ -31,8 +31,10 @@ use Rattle.routes.proofs.Laws.{all-sound}
 use Rattle.routes.proofs.Promises.{short-routes}
 use Rattle.chart_net.specs.Net.{chartNet, start, routesOf}
 use Rattle.chart_net.proofs.Promises.{accepted-ends}
-use Rattle.sheet_lines.specs.Lines.{nodeLine, linkLine, countsLine, refusedLine}
-use Rattle.sheet_lines.proofs.Lengths.{node-long, link-long, counts-long, question-long, refused-long}
+use Rattle.sheet_numbers.specs.Lines.{countsLine, refusedLine}
+use Rattle.sheet_numbers.proofs.Lengths.{counts-long, refused-long}
+use Rattle.sheet_lines.specs.Lines.{nodeLine, linkLine}
+use Rattle.sheet_lines.proofs.Lengths.{node-long, link-long, question-long}
 use Rattle.sheet_routes.specs.RouteLines.{routeLine, listText}
 use Rattle.sheet_routes.proofs.Lengths.{route-long, list-long}
 use Rattle.sheet.specs.Sheet.{longLine, place, lineAt, chartText, readText, sheetText, sheetRefusal, sheetWriteOf}

@@ -16,7 +16,8 @@ use Rattle.routes.specs.All.{upFrom, linksFrom, over, tries, routes, unmet, all
 use Rattle.chart_net.specs.Net.{placeIn, crossed, farIn, chartNet, start, routesOf}
 use Rattle.text.specs.Marks.{ascii}
 use Rattle.text.specs.Decimal.{digits}
-use Rattle.sheet_lines.specs.Lines.{stationText, endText, labelText, nodeLine, linkLine, countsLine, questionLine, refusedLine}
+use Rattle.sheet_numbers.specs.Lines.{countsLine, refusedLine}
+use Rattle.sheet_lines.specs.Lines.{stationText, endText, labelText, nodeLine, linkLine, questionLine}
 use Rattle.sheet_routes.specs.RouteLines.{placesText, routeLine, listText}
 use Rattle.sheet.specs.Sheet.{lineAt, chartText, readText, sheetText}
 

@@ -14,7 +14,8 @@ use Rattle.chart_read.specs.declared.ChartRead.{ChartRead}
 use Rattle.chart_read.specs.Reading.{chartReadOf}
 use Rattle.chart_net.specs.Net.{routesOf}
 use Rattle.text.specs.Marks.{ascii}
-use Rattle.sheet_lines.specs.Lines.{nodeLine, linkLine, countsLine, questionLine, refusedLine}
+use Rattle.sheet_numbers.specs.Lines.{countsLine, refusedLine}
+use Rattle.sheet_lines.specs.Lines.{nodeLine, linkLine, questionLine}
 use Rattle.sheet_routes.specs.RouteLines.{listText}
 
 -- an input above 4,096 bytes is not looked at; no more than 1,000 routes are listed

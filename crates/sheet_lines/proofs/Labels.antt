@@ -17,8 +17,9 @@ pub label-none : (n : ℕ) (l : List ℕ) → n ≡ 0 → [] ≡ labelText (take
 unfolding labelText
 label-none n l e = rw e
 
-pub label-all : (n : ℕ) (l : List ℕ) → length l ≤ n → 0 < length l → blank ++ l ≡ labelText (take n l)
-label-all n l h k = rw (take-all n l h) (label-some l k)
+-- of a list shorter than both, as many are as many
+pub take-both : (n m : ℕ) (l : List ℕ) → length l ≤ n → length l ≤ m → take n l ≡ take m l
+take-both n m l h k = rw (take-all n l h, take-all m l k)
 
-pub label-part : (n : ℕ) (l : List ℕ) → (n ≡ 0 → ⊥) → 0 < length l → blank ++ take n l ≡ labelText (take n l)
-label-part n l h k = label-some (take n l) (rw length-take (omega arith))
+pub label-part : (n m : ℕ) (l : List ℕ) → (m ≡ 0 → ⊥) → 0 < length l → take n l ≡ take m l → blank ++ take n l ≡ labelText (take m l)
+label-part n m l h k e = rw e (label-some (take m l) (rw length-take (omega arith)))

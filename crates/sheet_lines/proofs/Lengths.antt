@@ -14,8 +14,8 @@ use Rattle.address.specs.Address.{stationOf, stationInRange, inRange}
 use Rattle.chart.specs.declared.ChartNode.{ChartNode}
 use Rattle.chart.specs.declared.Link.{Link}
 use Rattle.text.specs.Decimal.{decimal}
-use Rattle.text.proofs.Lengths.{digits-most, two, three, four}
-use Rattle.sheet_lines.specs.Lines.{stationText, endText, labelText, nodeLine, onOff, linkLine, countsLine, questionLine, refusedLine}
+use Rattle.text.proofs.Lengths.{two, three, four}
+use Rattle.sheet_lines.specs.Lines.{stationText, endText, labelText, nodeLine, onOff, linkLine, questionLine}
 
 -- a station in range
 station-range : (s : Station) → stationInRange s ≡ true → (s .brigade < 1000) × (s .node .0 < 10000)
@@ -74,23 +74,9 @@ link-long i l h a b =
     let o = on-long (l .on) in
     rw (length-append, length-append, length-append, length-append, length-append, length-append, length-append) (omega arith)
 
-pub counts-long : (nodes links : ℕ) → nodes < 100 → links < 100 → length (countsLine nodes links) ≤ 18
-unfolding countsLine
-counts-long nodes links h k =
-    let p : length (decimal nodes) ≤ 2 = two 20 nodes h in
-    let q : length (decimal links) ≤ 2 = two 20 links k in
-    rw (length-append, length-append, length-append, length-append) (omega arith)
-
 pub question-long : (from to : Station) → stationInRange from ≡ true → stationInRange to ≡ true → length (questionLine from to) ≤ 26
 unfolding questionLine
 question-long from to h k =
     let p = station-long from h in
     let q = station-long to k in
-    rw (length-append, length-append, length-append, length-append) (omega arith)
-
-pub refused-long : (number place : ℕ) → length (refusedLine number place) ≤ 53
-unfolding refusedLine
-refused-long number place =
-    let p : length (decimal number) ≤ 20 = digits-most 20 number in
-    let q : length (decimal place) ≤ 20 = digits-most 20 place in
     rw (length-append, length-append, length-append, length-append) (omega arith)

@@ -1,4 +1,4 @@
-// The lines of the printed sheet but its routes (document 01, "The printed sheet").
+// The lines of the printed sheet for nodes, links and the question (document 01, "The printed sheet").
 use address::Address;
 use address::Station;
 use chart::ChartNode;
@@ -11,7 +11,7 @@ ghost use lib.ListN.{take};
 ghost use Rattle.text.specs.Laying.{Laid};
 ghost use Rattle.text.specs.Marks.{blank, lf};
 ghost use Rattle.text.specs.Decimal.{decimal};
-ghost use Rattle.sheet_lines.specs.Lines.{stationText, endText, labelText, nodeLine, onOff, linkLine, countsLine, questionLine, refusedLine};
+ghost use Rattle.sheet_lines.specs.Lines.{stationText, endText, labelText, nodeLine, onOff, linkLine, questionLine};
 
 // Some bytes, and a number after them.
 fn put_numbered(out: &mut [u8], at: usize, before: &[u8], n: usize) -> usize
@@ -41,14 +41,11 @@ fn put_end(out: &mut [u8], at: usize, e: Address) -> usize
 fn put_label(out: &mut [u8], at: usize, label: [u8; 24], long: u8) -> usize
     ensures { λ r. ⌜ Laid (now (out .entry)) at (labelText (take long label)) (now (out .exit)) r ⌝ }
 {
-    let n = long as usize;
-    if n == 0 {
+    if long == 0 {
         return at;
     }
     let next = put_byte(out, at, b' ');
-    if 24 < n {
-        return put_bytes(out, next, &label);
-    }
+    let n = if long < 24 { long as usize } else { 24 };
     put_bytes(out, next, &label[..n])
 }
 
@@ -86,29 +83,6 @@ pub fn put_link(out: &mut [u8], at: usize, i: usize, l: Link) -> usize
     put_on(out, n3, l.on)
 }
 
-// Two words, a number after each, and the line's end.
-fn put_numbers(out: &mut [u8], at: usize, first: &[u8], a: usize, second: &[u8], b: usize) -> usize
-    ensures { λ r. ⌜ Laid (now (out .entry)) at (now (first .entry) ++ decimal a ++ now (second .entry) ++ decimal b ++ lf) (now (out .exit)) r ⌝ }
-{
-    let n1 = put_numbered(out, at, first, a);
-    let n2 = put_numbered(out, n1, second, b);
-    put_byte(out, n2, b'\n')
-}
-
-// The first line, with the two counts.
-pub fn put_counts(out: &mut [u8], at: usize, nodes: u8, links: u8) -> usize
-    ensures { λ r. ⌜ Laid (now (out .entry)) at (countsLine nodes links) (now (out .exit)) r ⌝ }
-{
-    put_numbers(
-        out,
-        at,
-        b"nodes ",
-        nodes as usize,
-        b" links ",
-        links as usize,
-    )
-}
-
 // The question's line.
 pub fn put_question(out: &mut [u8], at: usize, from: Station, to: Station) -> usize
     ensures { λ r. ⌜ Laid (now (out .entry)) at (questionLine from to) (now (out .exit)) r ⌝ }
@@ -116,11 +90,4 @@ pub fn put_question(out: &mut [u8], at: usize, from: Station, to: Station) -> us
     let n1 = put_station(out, at, b"from ", from);
     let n2 = put_station(out, n1, b" to ", to);
     put_byte(out, n2, b'\n')
-}
-
-// The one line of a refused chart.
-pub fn put_refused(out: &mut [u8], at: usize, number: u8, place: usize) -> usize
-    ensures { λ r. ⌜ Laid (now (out .entry)) at (refusedLine number place) (now (out .exit)) r ⌝ }
-{
-    put_numbers(out, at, b"refused ", number as usize, b" at ", place)
 }

@@ -42,7 +42,7 @@ hand-over-requires : tie.Need-hand-over-requires
 hand-over-requires c κs =
     let a = c .before .before .before .before .before .before .before .args in
     let h : length (c .before .walk-on .result .route) ≡ 15 = search needs in
-    found-len 0 (leastFrom (net (a .ends) (a .ways) (a .links) (a .to)) (a .from) (metOf (c .before .before .only-met .result))) (c .before .walk-on .result) (c .before .walk-on .ensures) h
+    (found-len 0 (leastFrom (net (a .ends) (a .ways) (a .links) (a .to)) (a .from) (metOf (c .before .before .only-met .result))) (c .before .walk-on .result) (c .before .walk-on .ensures) h, h)
 
 same-length : tie.Need-same-length
 same-length c = search needs

@@ -1,22 +1,18 @@
 -- `search::next_route` meets its contract: 26, 28, 42 and 41 in their turn; else what `later` finds is the one after the given route among all.
 use mathlib.Core.Path.{_≡_, sym, ap, _∙_}
-use mathlib.Core.Bool.{true, false}
 use mathlib.Core.List.{List}
 use Prim.Native.Nat.{ℕ, _≤_}
 use native.Mathlib.Omega.{arith}
 use lib.ListN.{length, take}
 use lib.Seq.{length-take-le}
 use borrow.Author.Needs.{needs}
-use borrow.Author.Tests.{not-true, not-false}
 use Rattle.routes.specs.All.{unmet, allFrom, nextOf}
-use Rattle.routes.specs.Steps.{isRoute}
 use Rattle.search.specs.Net.{metOf, net}
 use Rattle.search.specs.Answers.{nextRoute, routesIn}
 use Rattle.search.specs.Steps.{foundAt}
 use Rattle.search.proofs.Leading.{only-unmet}
 use Rattle.search.proofs.Finding.{found-len}
-use Rattle.search.proofs.Following.{next-known}
-use Rattle.search.proofs.Telling.{next-many, next-placeless, next-small, next-over, next-none, next-told, all-join, not-route, carried}
+use Rattle.search.proofs.Telling.{next-many, next-placeless, next-small, next-over, next-told, all-join, carried}
 use Rattle.search.proofs.next_route.Statement.{statement}
 use Rattle.search.proofs.next_route.Tie as tie
 
@@ -52,60 +48,34 @@ slice-aggregate-r c =
     let h : a .given ≤ length (a .buf .now) = omega arith in
     sym (length-take-le (a .given) (a .buf .now) h)
 
-route-from-requires : tie.Need-route-from-requires
-route-from-requires c κs = search needs
+later-requires : tie.Need-later-requires
+later-requires c κs =
+    let a = c .before .before .before .before .before .before .before .args in
+    let o = c .before .only-met in
+    let u : unmet 16 (metOf (o .result)) ≡ 15 = rw (o .ensures) (only-unmet (a .from) (c .before .before .before .before .if2 .left)) in
+    (c .before .before .before .before .before .if1 .left, omega arith)
+
+hand-over-requires : tie.Need-hand-over-requires
+hand-over-requires c κs =
+    let a = c .before .before .before .before .before .before .before .before .before .args in
+    let o = c .before .before .before .only-met in
+    let f = c .before .later in
+    let h : length (f .result .route) ≡ 15 = search needs in
+    (found-len 0 (nextOf (allFrom (net (a .ends) (a .ways) (a .links) (a .to)) (a .from) (metOf (o .result))) (take (a .given) (a .buf .now))) (f .result) (f .ensures) h, h)
 
 same-length : tie.Need-same-length
 same-length c = search needs
 
 returns-5 : tie.Need-returns-5
 returns-5 c =
-    let s = c .before .before .before .before .before .before .before .before .before in
-    let a = s .args in
-    let o = c .before .before .before .only-met in
-    let q = c .before .route-from in
-    let few = c .before .before .before .before .before .before .before .if1 .left in
-    let inside = c .before .before .before .before .before .before .if2 .left in
-    let e : isRoute (net (a .ends) (a .ways) (a .links) (a .to)) (a .from) (metOf (o .result)) (take (a .given) (a .buf .now)) ≡ false = sym (q .ensures) ∙ not-true (q .result) (c .if5 .taken) in
-    let h = not-route (a .ends) (a .ways) (a .links) (a .from) (a .to) few inside (o .result) (take (a .given) (a .buf .now)) (o .ensures) e in
-    next-none (a .ends) (a .ways) (a .links) (a .from) (a .to) few inside (a .buf .now) (a .given) (c .before .before .before .before .before .if3 .left) (c .before .before .before .before .if4 .left) h
-
-later-requires : tie.Need-later-requires
-later-requires c κs =
-    let a = c .before .before .before .before .before .before .before .before .before .args in
-    let o = c .before .before .before .only-met in
-    let q = c .before .route-from in
-    let u : unmet 16 (metOf (o .result)) ≡ 15 = rw (o .ensures) (only-unmet (a .from) (c .before .before .before .before .before .before .if2 .left)) in
-    let e : isRoute (net (a .ends) (a .ways) (a .links) (a .to)) (a .from) (metOf (o .result)) (take (a .given) (a .buf .now)) ≡ true = sym (q .ensures) ∙ not-false (q .result) (c .if5 .left) in
-    (c .before .before .before .before .before .before .before .if1 .left, (omega arith, e))
-
-hand-over-requires : tie.Need-hand-over-requires
-hand-over-requires c κs =
-    let a = c .before .before .before .before .before .before .before .before .before .before .before .args in
-    let o = c .before .before .before .before .before .only-met in
-    let f = c .before .later in
-    let h : length (f .result .route) ≡ 15 = search needs in
-    found-len 0 (nextOf (allFrom (net (a .ends) (a .ways) (a .links) (a .to)) (a .from) (metOf (o .result))) (take (a .given) (a .buf .now))) (f .result) (f .ensures) h
-
-same-length-2 : tie.Need-same-length-2
-same-length-2 c = search needs
-
-returns-6 : tie.Need-returns-6
-returns-6 c =
-    let a = c .before .before .before .before .before .before .before .before .before .before .before .before .before .before .args in
-    let o = c .before .before .before .before .before .before .before .before .only-met in
-    let q = c .before .before .before .before .before .before .route-from in
+    let a = c .before .before .before .before .before .before .before .before .before .before .before .before .args in
     let f = c .before .before .before .before .later in
-    let r = take (a .given) (a .buf .now) in
-    let G = net (a .ends) (a .ways) (a .links) (a .to) in
-    let few = c .before .before .before .before .before .before .before .before .before .before .before .before .if1 .left in
-    let inside = c .before .before .before .before .before .before .before .before .before .before .before .if2 .left in
+    let o = c .before .before .before .before .before .before .only-met in
+    let few = c .before .before .before .before .before .before .before .before .before .before .if1 .left in
+    let inside = c .before .before .before .before .before .before .before .before .before .if2 .left in
     let j = all-join (a .ends) (a .ways) (a .links) (a .from) (a .to) few inside (o .result) (o .ensures) in
-    let e : isRoute G (a .from) (metOf (o .result)) r ≡ true = sym (q .ensures) ∙ not-false (q .result) (c .before .before .before .before .before .if5 .left) in
-    let known = next-known (a .ends) (a .ways) (a .links) (a .to) (a .from) (metOf (o .result)) r e in
-    let p = next-told (a .ends) (a .ways) (a .links) (a .from) (a .to) few inside (a .buf .now) (a .given) (f .result)
-    (c .before .before .before .before .before .before .before .before .before .before .if3 .left) (c .before .before .before .before .before .before .before .before .before .if4 .left)
-    (λ z. known (ap (λ (l : List (List ℕ)). nextOf l r) j ∙ z)) (f .ensures ∙ ap (λ (l : List (List ℕ)). foundAt 0 (nextOf l r)) j) in
+    let p = next-told (a .ends) (a .ways) (a .links) (a .from) (a .to) few inside (a .buf .now) (a .given) (f .result) (c .before .before .before .before .before .before .before .before .if3 .left) (c .before .before .before .before .before .before .before .if4 .left)
+    (f .ensures ∙ ap (λ (l : List (List ℕ)). foundAt 0 (nextOf l (take (a .given) (a .buf .now)))) j) in
     carried (nextRoute (routesIn (a .ends) (a .ways) (a .links) (a .from) (a .to)) (a .buf .now) (a .given)) (a .buf .now) (c .before .before .hand-over .ensures .0) (c .before .before .hand-over .ensures .1) p
 
 pub next-route-spec : {M : Type 1} → statement M
@@ -119,10 +89,7 @@ next-route-spec =
     only-met-requires
     slice-reshare-prefix-r
     slice-aggregate-r
-    route-from-requires
-    same-length
-    returns-5
     later-requires
     hand-over-requires
-    same-length-2
-    returns-6)
+    same-length
+    returns-5)

@@ -1,10 +1,13 @@
--- `sheet_lines::put_label` meets its contract: nothing for an empty label, else a blank and its bytes.
-use mathlib.Core.Path.{sym}
+-- `sheet_lines::put_label` meets its contract: nothing for an empty label, else a blank and its bytes, of which there are no more than 24.
+use Prim.Native.Nat.{ℕ, _≤_}
+use mathlib.Core.Path.{_≡_, sym, ap}
+use mathlib.Core.Logic.{⊎-elim}
 use native.Mathlib.Omega.{arith}
 use borrow.Author.Needs.{needs}
+use lib.ListN.{take}
 use lib.Seq.{length-take-le}
 use Rattle.text.proofs.Joining.{nothing, said, _▸_}
-use Rattle.sheet_lines.proofs.Labels.{label-none, label-all, label-part}
+use Rattle.sheet_lines.proofs.Labels.{label-none, take-both, label-part}
 use Rattle.sheet_lines.proofs.put_label.Statement.{statement}
 use Rattle.sheet_lines.proofs.put_label.Tie as tie
 
@@ -14,8 +17,15 @@ returns c = let a = c .before .before .args in said (label-none (a .long) (a .t3
 put-byte-requires : tie.Need-put-byte-requires
 put-byte-requires c κs = search needs
 
+-- as many bytes as are put
+few : (c : tie.Joined2) → c .if2 .n ≤ 24
+few c = ⊎-elim (λ w. omega (arith, w .0 .taken, w .1)) (λ w. omega (arith, w .1)) (c .if2 .came)
+
+array-share-prefix-label : tie.Need-array-share-prefix-label
+array-share-prefix-label c = let h = few (c .before) in omega arith
+
 slice-aggregate-put-bytes : tie.Need-slice-aggregate-put-bytes
-slice-aggregate-put-bytes c = search needs
+slice-aggregate-put-bytes c = let h = few (c .before .before) in sym (length-take-le (c .before .before .if2 .n) (c .before .before .before .before .before .before .before .before .before .args .t3) (omega arith))
 
 put-bytes-requires : tie.Need-put-bytes-requires
 put-bytes-requires c κs = search needs
@@ -25,25 +35,11 @@ same-length c = search needs
 
 returns-2 : tie.Need-returns-2
 returns-2 c =
+    let j = c .before .before .before .before .before in
     let a = c .before .before .before .before .before .before .before .before .before .before .before .before .args in
-    said (label-all (a .long) (a .t3) (omega arith) (omega arith)) (c .before .before .before .before .before .before .before .before .put-byte .ensures ▸ c .before .before .put-bytes .ensures)
-
-array-share-prefix-label : tie.Need-array-share-prefix-label
-array-share-prefix-label c = search needs
-
-slice-aggregate-put-bytes-2 : tie.Need-slice-aggregate-put-bytes-2
-slice-aggregate-put-bytes-2 c = let a = c .before .before .before .before .before .before .before .before .before .args in sym (length-take-le (a .long) (a .t3) (omega arith))
-
-put-bytes-requires-2 : tie.Need-put-bytes-requires-2
-put-bytes-requires-2 c κs = search needs
-
-same-length-2 : tie.Need-same-length-2
-same-length-2 c = search needs
-
-returns-3 : tie.Need-returns-3
-returns-3 c =
-    let a = c .before .before .before .before .before .before .before .before .before .before .before .before .args in
-    said (label-part (a .long) (a .t3) (c .before .before .before .before .before .before .before .before .before .before .if1 .left) (omega arith)) (c .before .before .before .before .before .before .before .before .put-byte .ensures ▸ c .before .before .put-bytes2 .ensures)
+    let e : take (j .if2 .n) (a .t3) ≡ take (a .long) (a .t3) =
+    ⊎-elim (λ w. ap (λ (n : ℕ). take n (a .t3)) (w .1)) (λ w. take-both (j .if2 .n) (a .long) (a .t3) (omega (arith, w .1)) (omega (arith, w .0 .left))) (j .if2 .came) in
+    said (label-part (j .if2 .n) (a .long) (a .t3) (c .before .before .before .before .before .before .before .before .before .before .if1 .left) (omega arith) e) (c .before .before .before .before .before .before .before .before .put-byte .ensures ▸ c .before .before .put-bytes .ensures)
 
 pub put-label-spec : {M : Type 1} → statement M
 put-label-spec =
@@ -51,12 +47,8 @@ put-label-spec =
     (tie.spec
     returns
     put-byte-requires
+    array-share-prefix-label
     slice-aggregate-put-bytes
     put-bytes-requires
     same-length
-    returns-2
-    array-share-prefix-label
-    slice-aggregate-put-bytes-2
-    put-bytes-requires-2
-    same-length-2
-    returns-3)
+    returns-2)

@@ -1,12 +1,11 @@
 -- `ledger::keys::seen` meets its contract. The loop's invariant: found says whether a key before j is the one at i.
 use Prim.Native.Nat.{_≤_, _-_}
-use mathlib.Core.Path.{_≡_, sym, _∙_}
-use mathlib.Core.Logic.{⊎-elim}
+use mathlib.Core.Path.{_≡_, sym, ap, _∙_}
+use mathlib.Core.Bool.{Bool, _||_}
 use lib.Dec.{eqb}
-use borrow.Author.Tests.{eq-eqb, ne-eqb}
 use Rattle.lists.specs.Places.{anyBelow, sameAt, elementAt}
-use Rattle.lists.proofs.Places.{any-none, any-met, any-unmet}
-use Rattle.ledger.proofs.Laws.{settled-unseen, open-seen}
+use Rattle.lists.proofs.Places.{any-none, any-next}
+use Rattle.ledger.proofs.Laws.{open-seen}
 use native.Mathlib.Omega.{arith}
 use borrow.Author.Needs.{needs}
 use Rattle.ledger.proofs.keys.seen.Statement.{statement}
@@ -28,11 +27,11 @@ element-copy-out-key c = search needs
 loop-holds : tie.Need-loop-holds Inv-loop μ-loop
 loop-holds c = (omega arith, sym (any-none (sameAt eqb (elementAt 0 (c .before .args .keys .now)) (c .before .args .i))))
 
-mul-if1 : tie.Need-mul-if1 Inv-loop μ-loop
-mul-if1 c = search needs
+mul-found : tie.Need-mul-found Inv-loop μ-loop
+mul-found c = search needs
 
-element-copy-out-if1 : tie.Need-element-copy-out-if1 Inv-loop μ-loop
-element-copy-out-if1 c = search needs
+element-copy-out-found : tie.Need-element-copy-out-found Inv-loop μ-loop
+element-copy-out-found c = search needs
 
 add-j : tie.Need-add-j Inv-loop μ-loop
 add-j c = search needs
@@ -43,20 +42,18 @@ loop-less c = search needs
 loop-again : tie.Need-loop-again Inv-loop μ-loop
 unfolding sameAt elementAt
 loop-again c =
-    let l = c .before .before .before .loop in
-    let p = sameAt eqb (elementAt 0 (c .before .before .before .before .before .args .keys .now)) (c .before .before .before .before .before .args .i) in
-    (omega arith, ⊎-elim (λ w. w .1 ∙ any-met p (l .j) (eq-eqb _ _ (w .0 .taken))) (λ w. w .1 ∙ any-unmet p (l .j) (l .inv .1) (ne-eqb _ _ (w .0 .left))) (c .if1 .came))
+    let l = c .before .before .loop in
+    let a = c .before .before .before .before .args in
+    let p = sameAt eqb (elementAt 0 (a .keys .now)) (a .i) in
+    (omega arith, ap (λ (b : Bool). b || p (l .j)) (l .inv .1) ∙ sym (any-next p (l .j)))
 
 returns : tie.Need-returns Inv-loop μ-loop
 unfolding elementAt
-returns c = settled-unseen (elementAt 0 (c .before .before .before .before .args .keys .now)) (c .before .before .before .before .args .i) (c .if2 .taken)
-
-returns-2 : tie.Need-returns-2 Inv-loop μ-loop
-unfolding elementAt
-returns-2 c =
-    let l = c .before .before .loop in
-    let e : l .j ≡ c .before .before .before .before .args .i = omega arith in
-    open-seen (elementAt 0 (c .before .before .before .before .args .keys .now)) (c .before .before .before .before .args .i) (c .if2 .left) (l .inv .1 ∙ rw e)
+returns c =
+    let l = c .before .loop in
+    let a = c .before .before .before .args in
+    let e : l .j ≡ a .i = omega arith in
+    open-seen (elementAt 0 (a .keys .now)) (a .i) (l .inv .1 ∙ rw e)
 
 pub seen-spec : {M : Type 1} → statement M
 seen-spec =
@@ -67,10 +64,9 @@ seen-spec =
     mul-key
     element-copy-out-key
     loop-holds
-    mul-if1
-    element-copy-out-if1
+    mul-found
+    element-copy-out-found
     add-j
     loop-less
     loop-again
-    returns
-    returns-2)
+    returns)

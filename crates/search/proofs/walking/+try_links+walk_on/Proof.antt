@@ -90,27 +90,6 @@ try-links-walk-on-requires t c κs =
     let p = c .before .before .before .before .pre in
     (omega arith, (p .1 .0, omega arith))
 
-try-links-cast-f : (t : ℕ) → try-links-lts.Need-cast-f (seek-reads.Asked, seek-reads.Learnt, nothing-reads.Asked, nothing-reads.Learnt, walk-on-below t, walk-on.Post, try-links-below t, try-links.Post) (try-links-at t) try-links.Post
-try-links-cast-f t c =
-    let f = found-way t (c .before .before) in
-    omega arith
-
-try-links-element-write-f : (t : ℕ) → try-links-lts.Need-element-write-f (seek-reads.Asked, seek-reads.Learnt, nothing-reads.Asked, nothing-reads.Learnt, walk-on-below t, walk-on.Post, try-links-below t, try-links.Post) (try-links-at t) try-links.Post
-try-links-element-write-f t c =
-    let f = found-way t (c .before .before) in
-    omega arith
-
-try-links-returns-2 : (t : ℕ) → try-links-lts.Need-returns-2 (seek-reads.Asked, seek-reads.Learnt, nothing-reads.Asked, nothing-reads.Learnt, walk-on-below t, walk-on.Post, try-links-below t, try-links.Post) (try-links-at t) try-links.Post
-try-links-returns-2 t c =
-    let q = c .before .before in
-    let a = q .before .before .before .before .args in
-    let k = q .before .w .given .0 .0 in
-    let n = q .before .w .given .0 .1 .0 in
-    let met' = set (a .met) n true in
-    let o = leastFrom (net (a .ends) (a .ways) (a .links) (a .to)) n (metOf met') in
-    let rest = leastTry (net (a .ends) (a .ways) (a .links) (a .to)) (a .at) (metOf (a .met)) (k + 1) in
-    found-put (a .d) k o rest (c .before .walk-on .result) (c .before .walk-on .ensures) (c .if1 .taken) ∙ sym (ap (foundAt (a .d)) (found-way t q .says))
-
 try-links-add-try-links : (t : ℕ) → try-links-lts.Need-add-try-links (seek-reads.Asked, seek-reads.Learnt, nothing-reads.Asked, nothing-reads.Learnt, walk-on-below t, walk-on.Post, try-links-below t, try-links.Post) (try-links-at t) try-links.Post
 try-links-add-try-links t c =
     let f = found-way t (c .before .before) in
@@ -122,17 +101,40 @@ try-links-try-links-requires t c κs =
     let p = c .before .before .before .before .before .before .pre in
     (omega arith, (p .1 .0, omega arith))
 
-try-links-returns-3 : (t : ℕ) → try-links-lts.Need-returns-3 (seek-reads.Asked, seek-reads.Learnt, nothing-reads.Asked, nothing-reads.Learnt, walk-on-below t, walk-on.Post, try-links-below t, try-links.Post) (try-links-at t) try-links.Post
-try-links-returns-3 t c =
+try-links-returns-2 : (t : ℕ) → try-links-lts.Need-returns-2 (seek-reads.Asked, seek-reads.Learnt, nothing-reads.Asked, nothing-reads.Learnt, walk-on-below t, walk-on.Post, try-links-below t, try-links.Post) (try-links-at t) try-links.Post
+try-links-returns-2 t c =
+    let w = c .before .before .walk-on in
     let q = c .before .before .before in
     let a = q .before .before .before .before .args in
     let k = q .before .w .given .0 .0 in
     let n = q .before .w .given .0 .1 .0 in
-    let met' = set (a .met) n true in
-    let o = leastFrom (net (a .ends) (a .ways) (a .links) (a .to)) n (metOf met') in
-    let rest = leastTry (net (a .ends) (a .ways) (a .links) (a .to)) (a .at) (metOf (a .met)) (k + 1) in
-    let w = c .before .before .walk-on in
-    c .try-links .ensures ∙ sym (ap (foundAt (a .d)) (found-way t q .says ∙ found-none (a .d) k o rest (w .result) (least-known (net (a .ends) (a .ways) (a .links) (a .to)) n (metOf met')) (w .ensures) (c .before .if1 .left)))
+    let G = net (a .ends) (a .ways) (a .links) (a .to) in
+    let o = leastFrom G n (metOf (set (a .met) n true)) in
+    let rest = leastTry G (a .at) (metOf (a .met)) (k + 1) in
+    c .try-links .ensures ∙ sym (ap (foundAt (a .d)) (found-way t q .says ∙ found-none (a .d) k o rest (w .result) (w .ensures) (c .before .if1 .taken)))
+
+try-links-cast-f : (t : ℕ) → try-links-lts.Need-cast-f (seek-reads.Asked, seek-reads.Learnt, nothing-reads.Asked, nothing-reads.Learnt, walk-on-below t, walk-on.Post, try-links-below t, try-links.Post) (try-links-at t) try-links.Post
+try-links-cast-f t c =
+    let f = found-way t (c .before .before) in
+    omega arith
+
+try-links-element-write-f : (t : ℕ) → try-links-lts.Need-element-write-f (seek-reads.Asked, seek-reads.Learnt, nothing-reads.Asked, nothing-reads.Learnt, walk-on-below t, walk-on.Post, try-links-below t, try-links.Post) (try-links-at t) try-links.Post
+try-links-element-write-f t c =
+    let f = found-way t (c .before .before) in
+    omega arith
+
+try-links-returns-3 : (t : ℕ) → try-links-lts.Need-returns-3 (seek-reads.Asked, seek-reads.Learnt, nothing-reads.Asked, nothing-reads.Learnt, walk-on-below t, walk-on.Post, try-links-below t, try-links.Post) (try-links-at t) try-links.Post
+try-links-returns-3 t c =
+    let w = c .before .walk-on in
+    let q = c .before .before in
+    let a = q .before .before .before .before .args in
+    let k = q .before .w .given .0 .0 in
+    let n = q .before .w .given .0 .1 .0 in
+    let G = net (a .ends) (a .ways) (a .links) (a .to) in
+    let o = leastFrom G n (metOf (set (a .met) n true)) in
+    let rest = leastTry G (a .at) (metOf (a .met)) (k + 1) in
+    let known = least-known G n (metOf (set (a .met) n true)) in
+    found-put (a .d) k o rest (w .result) (w .ensures) known (c .if1 .left) ∙ sym (ap (foundAt (a .d)) (found-way t q .says))
 
 walk-on-returns :
     (t : ℕ) →
@@ -176,11 +178,11 @@ pub +try-links+walk-on-spec : {M : Type 1} → statement M
     (try-links-array-write-then t)
     (try-links-add-walk-on t)
     (try-links-walk-on-requires t)
-    (try-links-cast-f t)
-    (try-links-element-write-f t)
-    (try-links-returns-2 t)
     (try-links-add-try-links t)
     (try-links-try-links-requires t)
+    (try-links-returns-2 t)
+    (try-links-cast-f t)
+    (try-links-element-write-f t)
     (try-links-returns-3 t))
     λ t. walk-on-lts.spec
     (try-links-below t, try-links.Post)

@@ -1,8 +1,8 @@
--- `sheet_lines::put_counts` meets its contract: the line is two words, a number after each.
+-- `sheet_numbers::put_counts` meets its contract: the line is two words, a number after each.
 use borrow.Author.Needs.{needs}
-use Rattle.sheet_lines.specs.Lines.{countsLine}
-use Rattle.sheet_lines.proofs.put_counts.Statement.{statement}
-use Rattle.sheet_lines.proofs.put_counts.Tie as tie
+use Rattle.sheet_numbers.specs.Lines.{countsLine}
+use Rattle.sheet_numbers.proofs.put_counts.Statement.{statement}
+use Rattle.sheet_numbers.proofs.put_counts.Tie as tie
 
 slice-aggregate-put-numbers : tie.Need-slice-aggregate-put-numbers
 slice-aggregate-put-numbers c = search needs
