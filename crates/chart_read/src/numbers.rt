@@ -35,7 +35,7 @@ fn node_body_number(late: bool, keys: &[u32; 16], n: usize, b: &[u8]) -> u8
         return 23;
     }
     let node = node_in(b);
-    chart_keys::node_number(late, keys, n, node)
+    chart_refuse::node_number(late, keys, n, node)
 }
 
 // A link's body.
@@ -57,7 +57,7 @@ fn link_body_number(
         return 24;
     }
     let l = link_in(b);
-    chart_keys::link_number(asked, keys, n, near, far, m, l)
+    chart_refuse::link_number(asked, keys, n, near, far, m, l)
 }
 
 // The question's body.
@@ -69,7 +69,7 @@ fn question_body_number(asked: bool, keys: &[u32; 16], n: usize, b: &[u8]) -> u8
     }
     let from = wide::station_in(b, 0);
     let to = wide::station_in(b, 3);
-    chart_keys::question_number(asked, keys, n, from, to)
+    chart_refuse::question_number(asked, keys, n, from, to)
 }
 
 // The field that begins at a place.
