@@ -1,12 +1,12 @@
 // The numbers 23 to 30 of one value, by the keys of the nodes and links before it.
 use crate::known::both_known;
-use crate::known::either_used;
 use crate::known::is_known;
-use crate::ranges::both_in_range;
-use crate::ranges::link_in_range;
+use crate::known::is_used;
+use crate::ranges::end_in_range;
 use crate::ranges::node_in_range;
 use address::Station;
 use address::same_station;
+use address::station_in_range;
 use address::station_of;
 use chart::ChartNode;
 use chart::LONGEST_LABEL;
@@ -32,8 +32,7 @@ pub fn node_number(late: bool, keys: &[u32; 16], n: usize, node: ChartNode) -> u
     if MOST_NODES as usize <= n {
         return 26;
     }
-    let s = node.station;
-    if is_known(keys, n, s) {
+    if is_known(keys, n, node.station) {
         return 27;
     }
     0
@@ -51,7 +50,7 @@ pub fn link_number(
 ) -> u8
     ensures { λ r. ⌜ r ≡ linkByKeys late (now (keys .entry)) n (now (near .entry)) (now (far .entry)) m l ⌝ }
 {
-    if !link_in_range(l) {
+    if !(end_in_range(l.a) & end_in_range(l.b)) {
         return 24;
     }
     if late {
@@ -71,7 +70,7 @@ pub fn link_number(
     if same_station(a, b) {
         return 29;
     }
-    if either_used(near, far, m, l) {
+    if is_used(near, far, m, l.a) | is_used(near, far, m, l.b) {
         return 30;
     }
     0
@@ -81,7 +80,7 @@ pub fn link_number(
 pub fn question_number(late: bool, keys: &[u32; 16], n: usize, from: Station, to: Station) -> u8
     ensures { λ r. ⌜ r ≡ questionByKeys late (now (keys .entry)) n from to ⌝ }
 {
-    if !both_in_range(from, to) {
+    if !(station_in_range(from) & station_in_range(to)) {
         return 24;
     }
     if late {

@@ -1,5 +1,5 @@
 -- `chart_refuse::numbers::node_number` meets its contract: the tests on the way say which number.
-use mathlib.Core.Path.{refl, sym, ap, _∙_}
+use mathlib.Core.Path.{_≡_, refl, sym, ap, _∙_}
 use mathlib.Core.Bool.{not}
 use borrow.Author.Tests.{lt-ltb, le-ltb, le-leb, lt-leb}
 use Rattle.lists.proofs.Chains.{stops, passes}
@@ -36,22 +36,11 @@ is-known-requires c κs = search needs
 
 returns-5 : tie.Need-returns-5
 unfolding nodeByKeys nodeBy
-returns-5 c = passes 23 (le-ltb _ _ (c .before .before .before .before .before .before .before .if1 .left)) (passes 24 (ap not (sym (c .before .before .before .before .before .before .node-in-range .ensures)) ∙ c .before .before .before .before .before .if2 .left) (passes 25 (c .before .before .before .before .if3 .left) (passes 26 (lt-leb _ _ (c .before .before .before .if4 .left)) (stops 27 _ (sym (c .before .is-known .ensures) ∙ c .if5 .taken)))))
+returns-5 c = passes 23 (le-ltb _ _ (c .before .before .before .before .before .before .if1 .left)) (passes 24 (ap not (sym (c .before .before .before .before .before .node-in-range .ensures)) ∙ c .before .before .before .before .if2 .left) (passes 25 (c .before .before .before .if3 .left) (passes 26 (lt-leb _ _ (c .before .before .if4 .left)) (stops 27 _ (sym (c .before .is-known .ensures) ∙ c .if5 .taken)))))
 
 returns-6 : tie.Need-returns-6
 unfolding nodeByKeys nodeBy
-returns-6 c = passes 23 (le-ltb _ _ (c .before .before .before .before .before .before .before .if1 .left)) (passes 24 (ap not (sym (c .before .before .before .before .before .before .node-in-range .ensures)) ∙ c .before .before .before .before .before .if2 .left) (passes 25 (c .before .before .before .before .if3 .left) (passes 26 (lt-leb _ _ (c .before .before .before .if4 .left)) (passes 27 (sym (c .before .is-known .ensures) ∙ c .if5 .left) refl))))
+returns-6 c = passes 23 (le-ltb _ _ (c .before .before .before .before .before .before .if1 .left)) (passes 24 (ap not (sym (c .before .before .before .before .before .node-in-range .ensures)) ∙ c .before .before .before .before .if2 .left) (passes 25 (c .before .before .before .if3 .left) (passes 26 (lt-leb _ _ (c .before .before .if4 .left)) (passes 27 (sym (c .before .is-known .ensures) ∙ c .if5 .left) refl))))
 
 pub node-number-spec : {M : Type 1} → statement M
-node-number-spec =
-    tie.close
-    (tie.spec
-    returns
-    node-in-range-requires
-    returns-2
-    returns-3
-    cast-if4
-    returns-4
-    is-known-requires
-    returns-5
-    returns-6)
+node-number-spec = tie.close (tie.spec returns node-in-range-requires returns-2 returns-3 cast-if4 returns-4 is-known-requires returns-5 returns-6)

@@ -5,9 +5,8 @@ use mathlib.Core.Bool.{false}
 use Rattle.lists.specs.Places.{anyBelow}
 use Rattle.lists.proofs.Places.{any-none, any-more, any-end, any-found}
 use Rattle.chart.specs.Values.{strayByte}
-use Rattle.chart.proofs.Laws.{low-stray, high-stray, none-stray}
-use borrow.Author.Needs.{needs}
 use native.Mathlib.Omega.{arith}
+use borrow.Author.Needs.{needs}
 use Rattle.chart_refuse.proofs.ranges.any_stray.Statement.{statement}
 use Rattle.chart_refuse.proofs.ranges.any_stray.Tie as tie
 
@@ -25,10 +24,10 @@ array-read-x : tie.Need-array-read-x Inv-loop μ-loop
 array-read-x c = search needs
 
 returns : tie.Need-returns Inv-loop μ-loop
-returns c = sym (any-found (strayByte (c .before .before .before .args .t1)) (c .before .before .before .args .n) (c .before .before .loop .i) (omega arith) (low-stray (c .before .before .before .args .t1) (c .before .before .loop .i) (c .if1 .taken)))
-
-returns-2 : tie.Need-returns-2 Inv-loop μ-loop
-returns-2 c = sym (any-found (strayByte (c .before .before .before .before .args .t1)) (c .before .before .before .before .args .n) (c .before .before .before .loop .i) (omega arith) (high-stray (c .before .before .before .before .args .t1) (c .before .before .before .loop .i) (c .if2 .taken)))
+unfolding strayByte
+returns c =
+    let s = c .before .before .before in
+    sym (any-found (strayByte (s .args .t1)) (s .args .n) (c .before .before .loop .i) (omega arith) (c .if1 .taken))
 
 add-i : tie.Need-add-i Inv-loop μ-loop
 add-i c = search needs
@@ -37,22 +36,11 @@ loop-less : tie.Need-loop-less Inv-loop μ-loop
 loop-less c = search needs
 
 loop-again : tie.Need-loop-again Inv-loop μ-loop
-loop-again c = (omega arith, any-more _ (c .before .before .before .loop .i) (c .before .before .before .loop .inv .1) (none-stray (c .before .before .before .before .args .t1) (c .before .before .before .loop .i) (c .before .if1 .left) (c .if2 .left)))
+unfolding strayByte
+loop-again c = (omega arith, any-more _ (c .before .before .loop .i) (c .before .before .loop .inv .1) (c .if1 .left))
 
-returns-3 : tie.Need-returns-3 Inv-loop μ-loop
-returns-3 c = any-end _ (omega arith) (c .before .loop .inv .1)
+returns-2 : tie.Need-returns-2 Inv-loop μ-loop
+returns-2 c = any-end _ (omega arith) (c .before .loop .inv .1)
 
 pub any-stray-spec : {M : Type 1} → statement M
-any-stray-spec =
-    tie.close
-    (tie.spec
-    Inv-loop
-    μ-loop
-    loop-holds
-    array-read-x
-    returns
-    returns-2
-    add-i
-    loop-less
-    loop-again
-    returns-3)
+any-stray-spec = tie.close (tie.spec Inv-loop μ-loop loop-holds array-read-x returns add-i loop-less loop-again returns-2)

@@ -1,22 +1,18 @@
--- `chart_refuse::ranges::end_in_range` meets its contract: port 0 decides, else the address.
-use mathlib.Core.Path.{_∙_}
-use borrow.Author.Tests.{le-leb, lt-leb}
-use Rattle.lists.proofs.Bools.{stop1, go1}
+-- `chart_refuse::ranges::end_in_range` meets its contract: its port, and the address.
+use mathlib.Core.Path.{ap}
+use mathlib.Core.Bool.{Bool, _&&_}
+use lib.Dec.{leb}
 use Rattle.chart.specs.Values.{endInRange}
 use borrow.Author.Needs.{needs}
 use Rattle.chart_refuse.proofs.ranges.end_in_range.Statement.{statement}
 use Rattle.chart_refuse.proofs.ranges.end_in_range.Tie as tie
 
-returns : tie.Need-returns
-unfolding endInRange
-returns c = stop1 _ (lt-leb _ _ (c .if1 .taken))
-
 in-range-requires : tie.Need-in-range-requires
 in-range-requires c κs = search needs
 
-returns-2 : tie.Need-returns-2
+returns : tie.Need-returns
 unfolding endInRange
-returns-2 c = c .in-range .ensures ∙ go1 (le-leb _ _ (c .before .if1 .left))
+returns c = ap (λ (b : Bool). leb 1 (c .before .before .args .e .port .0) && b) (c .in-range .ensures)
 
 pub end-in-range-spec : {M : Type 1} → statement M
-end-in-range-spec = tie.close (tie.spec returns in-range-requires returns-2)
+end-in-range-spec = tie.close (tie.spec in-range-requires returns)
