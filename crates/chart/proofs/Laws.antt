@@ -1,13 +1,11 @@
 -- Laws of the chart's values: what a loop reads at a place, and what a number of 0 says of the value that it lets pass.
 use Prim.Native.Nat.{ℕ, _<_, _≤_}
 use mathlib.Core.Path.{_≡_}
-use mathlib.Core.List.{List}
 use mathlib.Core.Bool.{Bool, true, false, not, _&&_, _||_}
 use lib.ListN.{length, getD}
 use lib.Dec.{ltb, leb}
-use borrow.Author.Tests.{lt-ltb, le-ltb, ltb-false, leb-false, not-false}
+use borrow.Author.Tests.{ltb-false, leb-false, not-false}
 use Rattle.lists.proofs.Places.{element-own}
-use Rattle.lists.proofs.Bools.{or-right, or-neither}
 use Rattle.lists.proofs.Refusals.{pass}
 use Rattle.address.specs.declared.Station.{Station}
 use Rattle.address.specs.Address.{stationOf, stationInRange, sameStation}
@@ -15,7 +13,7 @@ use Rattle.chart.specs.declared.ChartNode.{ChartNode}
 use Rattle.chart.specs.declared.Link.{Link}
 use Rattle.chart.specs.declared.Nodes.{Nodes}
 use Rattle.chart.specs.declared.Links.{Links}
-use Rattle.chart.specs.Values.{noNode, noLink, nodeAt, linkAt, strayByte, nodeInRange, linkInRange, written, used}
+use Rattle.chart.specs.Values.{noNode, noLink, nodeAt, linkAt, nodeInRange, linkInRange, written, used}
 use Rattle.chart.specs.Numbers.{nodeBy, linkBy, questionBy, nodeNumber, linkNumber, questionNumber}
 
 -- ---- what a loop reads at a place
@@ -27,19 +25,6 @@ node-read ns d i h = element-own noNode d (ns .items) i h
 pub link-read : (ls : Links) (d : Link) (i : ℕ) → i < length (ls .items) → getD (ls .items) i d ≡ linkAt ls i
 unfolding linkAt
 link-read ls d i h = element-own noLink d (ls .items) i h
-
-module _ (label : List ℕ) (i : ℕ) where
-  pub low-stray : getD label i 0 < 32 → strayByte label i ≡ true
-  unfolding strayByte
-  low-stray h = rw (lt-ltb (getD label i 0) 32 h)
-
-  pub high-stray : 126 < getD label i 0 → strayByte label i ≡ true
-  unfolding strayByte
-  high-stray h = rw (lt-ltb 126 (getD label i 0) h) (or-right (ltb (getD label i 0) 32))
-
-  pub none-stray : 32 ≤ getD label i 0 → getD label i 0 ≤ 126 → strayByte label i ≡ false
-  unfolding strayByte
-  none-stray h k = or-neither (le-ltb (getD label i 0) 32 h) (le-ltb 126 (getD label i 0) k)
 
 -- ---- what 0 says
 

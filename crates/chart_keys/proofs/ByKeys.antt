@@ -11,7 +11,6 @@ use borrow.Author.Tests.{eqb-true, eqb-false, eq-eqb}
 use Rattle.lists.specs.Places.{anyBelow, elementAt}
 use Rattle.lists.proofs.Places.{any-agree}
 use Rattle.lists.proofs.Bools.{both-same, and-left, and-right, and-both}
-use Rattle.lists.proofs.Chains.{or-left, or-skip}
 use Rattle.address.specs.declared.Station.{Station}
 use Rattle.address.specs.declared.Address.{Address}
 use Rattle.address.specs.Address.{stationOf, sameStation, sameAddress}
@@ -29,13 +28,9 @@ pub known-by : (keys : List ℕ) (n : ℕ) (s : Station) {k : ℕ} → StationKe
 unfolding known
 known-by keys n s e = ap (λ (k : ℕ). anyBelow (keyIs keys k) n) (e .key)
 
-pub used-near : (near far : List ℕ) (m : ℕ) (a : Address) {k : ℕ} → EndKeyed a k → anyBelow (keyIs near k) m ≡ true → true ≡ usedBy near far m a
+pub used-by : (near far : List ℕ) (m : ℕ) (a : Address) {k : ℕ} → EndKeyed a k → (anyBelow (keyIs near k) m || anyBelow (keyIs far k) m) ≡ usedBy near far m a
 unfolding usedBy
-used-near near far m a e h = sym (or-left _ (ap (λ (k : ℕ). anyBelow (keyIs near k) m) (sym (e .key)) ∙ h))
-
-pub used-far : (near far : List ℕ) (m : ℕ) (a : Address) {k : ℕ} → EndKeyed a k → anyBelow (keyIs near k) m ≡ false → anyBelow (keyIs far k) m ≡ usedBy near far m a
-unfolding usedBy
-used-far near far m a e h = ap (λ (k : ℕ). anyBelow (keyIs far k) m) (e .key) ∙ sym (or-skip (ap (λ (k : ℕ). anyBelow (keyIs near k) m) (sym (e .key)) ∙ h))
+used-by near far m a e = ap (λ (k : ℕ). anyBelow (keyIs near k) m || anyBelow (keyIs far k) m) (e .key)
 
 -- a test of two kinds holds somewhere exactly if one of the two does
 shuffle : (a b c d : Bool) → ((a || b) || (c || d)) ≡ ((a || c) || (b || d))

@@ -36,7 +36,7 @@ fn nodes_number(nodes: Nodes, keys: &[u32; 16]) -> u8
     let mut i: usize = 0;
     while i < n {
         let node = nodes.items[i];
-        let k = chart_keys::node_number(false, keys, i, node);
+        let k = chart_refuse::node_number(false, keys, i, node);
         if k != 0 {
             return k;
         }
@@ -60,7 +60,7 @@ fn links_number(
     let mut i: usize = 0;
     while i < m {
         let l = links.items[i];
-        let k = chart_keys::link_number(false, keys, nodes.count as usize, near, far, i, l);
+        let k = chart_refuse::link_number(false, keys, nodes.count as usize, near, far, i, l);
         if k != 0 {
             return k;
         }
@@ -93,5 +93,5 @@ pub fn chart_number(c: Chart) -> u8
     if k != 0 {
         return k;
     }
-    chart_keys::question_number(false, &keys, nodes.count as usize, c.from, c.to)
+    chart_refuse::question_number(false, &keys, nodes.count as usize, c.from, c.to)
 }

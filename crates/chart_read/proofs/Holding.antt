@@ -1,12 +1,13 @@
 -- What the reader's loop keeps: the walk from here is the whole reading, and the keys are those of the nodes and links that are held.
-use Prim.Native.Nat.{ℕ, _+_, _-_, _<_, _≤_}
+use Prim.Native.Nat.{ℕ, _+_, _<_, _≤_}
 use mathlib.Core.Path.{_≡_, refl, sym, ap, ap₂, subst, _∙_}
 use mathlib.Core.List.{List}
 use mathlib.Core.Bool.{Bool, true, false}
 use native.Mathlib.Omega.{arith}
-use lib.ListN.{length, getD, set, take, drop, replicate, length-set}
+use lib.ListN.{length, getD, set, replicate, length-set}
+use lib.Dec.{eqb}
 use borrow.Author.Tests.{eq-eqb, ne-eqb}
-use Rattle.lists.specs.Bytes.{Bytes, wordAt}
+use Rattle.lists.specs.Bytes.{Bytes}
 use Rattle.address.specs.declared.Station.{Station}
 use Rattle.address.specs.Wide.{stationIn}
 use Rattle.chart.specs.declared.ChartNode.{ChartNode}
@@ -17,11 +18,11 @@ use Rattle.chart.specs.Numbers.{nodeNumber, linkNumber}
 use Rattle.chart_keys.specs.Keys.{StationKeyed, EndKeyed, KeyedNodes, KeyedLinks}
 use Rattle.chart.proofs.Laws.{node-passed, link-passed}
 use Rattle.chart_keys.proofs.ByKeys.{keyed-node, keyed-link}
-use Rattle.chart_read.specs.Fields.{tagAt, bodyAt, nodeIn, linkIn}
-use Rattle.chart_read.specs.Reading.{SoFar, nothing, withNode, withLink, withQuestion, Refusing, nodeLate, refusing, bodyNumber, fieldNumber, refusedAt, chartReadOf}
+use Rattle.chart_read.specs.Fields.{tagAt, bodyAt, pastField, nodeIn, linkIn}
+use Rattle.chart_read.specs.Reading.{SoFar, nothing, withNode, withLink, withQuestion, withBody, Refusing, nodeLate, refusing, bodyNumber, fieldNumber, refusedAt, chartReadOf}
 use Rattle.chart_read.specs.ByKeys.{refusingBy}
-use Rattle.chart_read.proofs.Walking.{heldPast, Reaches, reach-start, reach-next, reach-refused, reach-end, end-unasked, end-asked}
-use Rattle.chart_read.proofs.Laws.{with-node, with-link, with-question, node-zero, link-zero, node-bounds, link-bounds, body-made, whole, body-zero}
+use Rattle.chart_read.proofs.Walking.{Reaches, reach-start, reach-next, reach-refused, reach-end, end-unasked, end-asked}
+use Rattle.chart_read.proofs.Laws.{with-node, with-link, with-question, node-zero, link-zero, node-bounds, link-bounds, whole, body-zero}
 use Rattle.chart_read.proofs.Keyed.{field-same}
 
 -- the loop's variables
@@ -97,159 +98,171 @@ holding-start bytes n l e f =
 abbrev pub numberOf : List ℕ → Turn → ℕ
 numberOf bytes t = fieldNumber (refusingBy (t .asked) (t .keys) (t .n) (t .near) (t .far) (t .m)) bytes (t .at)
 
-module _ (bytes : List ℕ) (t : Turn) (h : Holding bytes t) (b : Bytes bytes) (l : t .at < length bytes) where
+-- at a field of the input
+pub record Field (bytes : List ℕ) (t : Turn) : Type 0 where
+  pub held : Holding bytes t
+  pub all-bytes : Bytes bytes
+  pub begins : t .at < length bytes
+
+-- at a field that is taken: its number is 0, and its body and the place past it are at hand
+pub record Taken (bytes : List ℕ) (t : Turn) (b : List ℕ) (next : ℕ) : Type 0 where
+  pub field : Field bytes t
+  pub zero : numberOf bytes t ≡ 0
+  pub body : b ≡ bodyAt bytes (t .at)
+  pub past : next ≡ pastField bytes (t .at)
+
+module _ {bytes : List ℕ} {t : Turn} (f : Field bytes t) where
   abbrev r : Refusing
   r = refusing (soFarOf t)
 
   number-same : numberOf bytes t ≡ fieldNumber r bytes (t .at)
-  number-same = field-same (soFarOf t) (t .keys) (t .near) (t .far) (h .nodes) (h .links) bytes b (t .at)
+  number-same = field-same (soFarOf t) (t .keys) (t .near) (t .far) (f .held .nodes) (f .held .links) bytes (f .all-bytes) (t .at)
 
-  pub refused-field : (k : ℕ) → k ≡ numberOf bytes t → (k ≡ 0 → ⊥) → refusedAt k (t .at) ≡ chartReadOf bytes
-  refused-field k e z =
+  pub refused-field : {k : ℕ} → k ≡ numberOf bytes t → (k ≡ 0 → ⊥) → refusedAt k (t .at) ≡ chartReadOf bytes
+  refused-field e z =
       ap (λ (x : ℕ). refusedAt x (t .at)) (e ∙ number-same)
-      ∙ reach-refused bytes (soFarOf t) (t .at) l (h .reaches) (λ q. z (e ∙ number-same ∙ q))
+      ∙ reach-refused bytes (soFarOf t) (t .at) (f .begins) (f .held .reaches) (λ q. z (e ∙ number-same ∙ q))
 
-  module _ (w : ℕ) (v : w ≡ wordAt bytes (t .at + 1)) (e : numberOf bytes t ≡ 0) where
-    zero : fieldNumber r bytes (t .at) ≡ 0
-    zero = sym number-same ∙ e
+  pub whole-field : numberOf bytes t ≡ 0 → pastField bytes (t .at) ≤ length bytes
+  whole-field e = whole r bytes (t .at) (sym number-same ∙ e)
 
-    pub past : t .at + 3 + w ≤ length bytes
-    past = omega (arith, whole r bytes (t .at) zero)
+module _ {bytes : List ℕ} {t : Turn} {b : List ℕ} {next : ℕ} (f : Taken bytes t b next) where
+  abbrev h : Holding bytes t
+  h = f .field .held
 
-    abbrev tag : ℕ
-    tag = tagAt bytes (t .at)
+  abbrev tag : ℕ
+  tag = tagAt bytes (t .at)
 
-    abbrev body : List ℕ
-    body = bodyAt bytes (t .at)
+  no-number : fieldNumber (r (f .field)) bytes (t .at) ≡ 0
+  no-number = sym (number-same (f .field)) ∙ f .zero
 
-    abbrev made : List ℕ
-    made = take (t .at + 3 + w - (t .at + 3)) (drop (t .at + 3) bytes)
+  body-none : bodyNumber (r (f .field)) tag b ≡ 0
+  body-none = ap (bodyNumber (r (f .field)) tag) (f .body) ∙ body-zero (r (f .field)) bytes (t .at) no-number
 
-    body-none : bodyNumber r tag body ≡ 0
-    body-none = body-zero r bytes (t .at) zero
+  -- the walk goes on past the field
+  reached : Reaches bytes (withBody (soFarOf t) tag b) next
+  reached =
+      subst (λ (x : ℕ). Reaches bytes (withBody (soFarOf t) tag b) x) (sym (f .past))
+      (subst (λ (x : List ℕ). Reaches bytes (withBody (soFarOf t) tag x) (pastField bytes (t .at))) (sym (f .body))
+      (reach-next bytes (soFarOf t) (t .at) (f .field .begins) (h .reaches) no-number))
 
-    -- the walk goes on past the field
-    reached : Reaches bytes (heldPast (soFarOf t) bytes (t .at)) (t .at + 3 + w)
-    reached =
-        subst (λ (x : ℕ). Reaches bytes (heldPast (soFarOf t) bytes (t .at)) (t .at + 3 + x)) (sym v)
-        (reach-next bytes (soFarOf t) (t .at) l (h .reaches) zero)
+  module _ (g : tag ≡ 1) where
+    node-facts : (3 ≤ length b) × (length b ≤ 27) × (nodeNumber (nodeLate (soFarOf t)) (chartOf t .nodes) (nodeIn b) ≡ 0)
+    unfolding refusing
+    node-facts = node-bounds (r (f .field) .node) b (node-zero (r (f .field)) tag b body-none (eq-eqb _ _ g))
 
-    module _ (g : tag ≡ 1) where
-      node-facts : (3 ≤ length body) × (length body ≤ 27) × (nodeNumber (nodeLate (soFarOf t)) (chartOf t .nodes) (nodeIn body) ≡ 0)
-      unfolding refusing
-      node-facts = node-bounds (r .node) body (node-zero r tag body body-none (eq-eqb _ _ g))
+    pub node-room : t .n < 16
+    node-room = node-passed _ _ _ (node-facts .2) .room
 
-      pub node-room : t .n < 16
-      node-room = node-passed _ _ _ (node-facts .2) .room
+    pub node-length : (3 ≤ length b) × (length b ≤ 27)
+    node-length = (node-facts .0, node-facts .1)
 
-      pub node-length : (3 ≤ length made) × (length made ≤ 27)
-      node-length = subst (λ (x : List ℕ). (3 ≤ length x) × (length x ≤ 27)) (sym (body-made bytes (t .at) w v)) (node-facts .0, node-facts .1)
-
-      -- a node more
-      pub holding-node : (node : ChartNode) (k : ℕ) → node ≡ nodeIn made → StationKeyed (node .station) k
-          → Holding bytes (record {
-            nodes = set (t .nodes) (t .n) node;
-            links = t .links;
-            from = t .from;
-            to = t .to;
-            keys = set (t .keys) (t .n) k;
-            near = t .near;
-            far = t .far;
-            n = t .n + 1;
-            m = t .m;
-            asked = t .asked;
-            at = t .at + 3 + w;
-          })
-      unfolding withNode
-      holding-node node k q s =
-          record {
-            reaches = subst (λ (x : SoFar). Reaches bytes x (t .at + 3 + w))
-                (with-node (soFarOf t) tag body (eq-eqb _ _ g) ∙ ap (withNode (soFarOf t)) (sym (q ∙ ap nodeIn (body-made bytes (t .at) w v)))) reached;
-            nodes = keyed-node (chartOf t .nodes) (t .keys) (h .nodes) node k s (omega (arith, node-room, h .long-nodes)) (omega (arith, node-room, h .long-keys));
-            links = h .links;
-            few-nodes = omega (arith, node-room);
-            few-links = h .few-links;
-            long-nodes = length-set (t .nodes) (t .n) node ∙ h .long-nodes;
-            long-links = h .long-links;
-            long-keys = length-set (t .keys) (t .n) k ∙ h .long-keys;
-            long-near = h .long-near;
-            long-far = h .long-far;
-          }
-
-    module _ (f : tag ≡ 1 → ⊥) (g : tag ≡ 2) where
-      link-facts : (length body ≡ 9) × (getD body 8 0 ≤ 1) × (linkNumber (t .asked) (chartOf t .nodes) (chartOf t .links) (linkIn body) ≡ 0)
-      unfolding refusing
-      link-facts = link-bounds (r .link) body (link-zero r tag body body-none (ne-eqb _ _ f) (eq-eqb _ _ g))
-
-      pub link-room : t .m < 48
-      link-room = link-passed _ _ _ _ (link-facts .2) .room
-
-      pub link-length : length made ≡ 9
-      link-length = ap length (body-made bytes (t .at) w v) ∙ link-facts .0
-
-      -- a link more
-      pub holding-link : (link : Link) (j k : ℕ) → link ≡ linkIn made → EndKeyed (link .a) j → EndKeyed (link .b) k
-          → Holding bytes (record {
-            nodes = t .nodes;
-            links = set (t .links) (t .m) link;
-            from = t .from;
-            to = t .to;
-            keys = t .keys;
-            near = set (t .near) (t .m) j;
-            far = set (t .far) (t .m) k;
-            n = t .n;
-            m = t .m + 1;
-            asked = t .asked;
-            at = t .at + 3 + w;
-          })
-      unfolding withLink
-      holding-link link j k q sa sb =
-          record {
-            reaches = subst (λ (x : SoFar). Reaches bytes x (t .at + 3 + w))
-                (with-link (soFarOf t) tag body (ne-eqb _ _ f) (eq-eqb _ _ g) ∙ ap (withLink (soFarOf t)) (sym (q ∙ ap linkIn (body-made bytes (t .at) w v)))) reached;
-            nodes = h .nodes;
-            links = keyed-link (chartOf t .links) (t .near) (t .far) (h .links) link j k sa sb (omega (arith, link-room, h .long-links)) (omega (arith, link-room, h .long-near)) (omega (arith, link-room, h .long-far));
-            few-nodes = h .few-nodes;
-            few-links = omega (arith, link-room);
-            long-nodes = h .long-nodes;
-            long-links = length-set (t .links) (t .m) link ∙ h .long-links;
-            long-keys = h .long-keys;
-            long-near = length-set (t .near) (t .m) j ∙ h .long-near;
-            long-far = length-set (t .far) (t .m) k ∙ h .long-far;
-          }
-
-    -- the question
-    pub holding-question : (f : tag ≡ 1 → ⊥) (g : tag ≡ 2 → ⊥) (from to : Station) → from ≡ stationIn made 0 → to ≡ stationIn made 3
+    -- a node more
+    pub holding-node : (node : ChartNode) (k : ℕ) → node ≡ nodeIn b → StationKeyed (node .station) k
         → Holding bytes (record {
-          nodes = t .nodes;
+          nodes = set (t .nodes) (t .n) node;
           links = t .links;
-          from = from;
-          to = to;
-          keys = t .keys;
+          from = t .from;
+          to = t .to;
+          keys = set (t .keys) (t .n) k;
           near = t .near;
           far = t .far;
-          n = t .n;
+          n = t .n + 1;
           m = t .m;
-          asked = true;
-          at = t .at + 3 + w;
+          asked = t .asked;
+          at = next;
         })
-    unfolding withQuestion
-    holding-question f g from to p q =
-        let d = body-made bytes (t .at) w v in
+    unfolding withNode
+    holding-node node k q s =
         record {
-          reaches = subst (λ (x : SoFar). Reaches bytes x (t .at + 3 + w))
-              (with-question (soFarOf t) tag body (ne-eqb _ _ f) (ne-eqb _ _ g)
-              ∙ ap₂ (withQuestion (soFarOf t)) (sym (p ∙ ap (λ (y : List ℕ). stationIn y 0) d)) (sym (q ∙ ap (λ (y : List ℕ). stationIn y 3) d))) reached;
-          nodes = h .nodes;
+          reaches = subst (λ (x : SoFar). Reaches bytes x next)
+              (with-node (soFarOf t) tag b (eq-eqb _ _ g) ∙ ap (withNode (soFarOf t)) (sym q)) reached;
+          nodes = keyed-node (chartOf t .nodes) (t .keys) (h .nodes) node k s (omega (arith, node-room, h .long-nodes)) (omega (arith, node-room, h .long-keys));
           links = h .links;
-          few-nodes = h .few-nodes;
+          few-nodes = omega (arith, node-room);
           few-links = h .few-links;
-          long-nodes = h .long-nodes;
+          long-nodes = length-set (t .nodes) (t .n) node ∙ h .long-nodes;
           long-links = h .long-links;
-          long-keys = h .long-keys;
+          long-keys = length-set (t .keys) (t .n) k ∙ h .long-keys;
           long-near = h .long-near;
           long-far = h .long-far;
         }
+
+  module _ (g : tag ≡ 2) where
+    no-node-tag : eqb tag 1 ≡ false
+    no-node-tag = ap (λ (x : ℕ). eqb x 1) g
+
+    link-facts : (length b ≡ 9) × (getD b 8 0 ≤ 1) × (linkNumber (t .asked) (chartOf t .nodes) (chartOf t .links) (linkIn b) ≡ 0)
+    unfolding refusing
+    link-facts = link-bounds (r (f .field) .link) b (link-zero (r (f .field)) tag b body-none no-node-tag (eq-eqb _ _ g))
+
+    pub link-room : t .m < 48
+    link-room = link-passed _ _ _ _ (link-facts .2) .room
+
+    pub link-length : length b ≡ 9
+    link-length = link-facts .0
+
+    -- a link more
+    pub holding-link : (link : Link) (j k : ℕ) → link ≡ linkIn b → EndKeyed (link .a) j → EndKeyed (link .b) k
+        → Holding bytes (record {
+          nodes = t .nodes;
+          links = set (t .links) (t .m) link;
+          from = t .from;
+          to = t .to;
+          keys = t .keys;
+          near = set (t .near) (t .m) j;
+          far = set (t .far) (t .m) k;
+          n = t .n;
+          m = t .m + 1;
+          asked = t .asked;
+          at = next;
+        })
+    unfolding withLink
+    holding-link link j k q sa sb =
+        record {
+          reaches = subst (λ (x : SoFar). Reaches bytes x next)
+              (with-link (soFarOf t) tag b no-node-tag (eq-eqb _ _ g) ∙ ap (withLink (soFarOf t)) (sym q)) reached;
+          nodes = h .nodes;
+          links = keyed-link (chartOf t .links) (t .near) (t .far) (h .links) link j k sa sb (omega (arith, link-room, h .long-links)) (omega (arith, link-room, h .long-near)) (omega (arith, link-room, h .long-far));
+          few-nodes = h .few-nodes;
+          few-links = omega (arith, link-room);
+          long-nodes = h .long-nodes;
+          long-links = length-set (t .links) (t .m) link ∙ h .long-links;
+          long-keys = h .long-keys;
+          long-near = length-set (t .near) (t .m) j ∙ h .long-near;
+          long-far = length-set (t .far) (t .m) k ∙ h .long-far;
+        }
+
+  -- the question
+  pub holding-question : (tag ≡ 1 → ⊥) → (tag ≡ 2 → ⊥) → {from to : Station} → from ≡ stationIn b 0 → to ≡ stationIn b 3
+      → Holding bytes (record {
+        nodes = t .nodes;
+        links = t .links;
+        from = from;
+        to = to;
+        keys = t .keys;
+        near = t .near;
+        far = t .far;
+        n = t .n;
+        m = t .m;
+        asked = true;
+        at = next;
+      })
+  unfolding withQuestion
+  holding-question x y p q =
+      record {
+        reaches = subst (λ (s : SoFar). Reaches bytes s next)
+            (with-question (soFarOf t) tag b (ne-eqb _ _ x) (ne-eqb _ _ y) ∙ ap₂ (withQuestion (soFarOf t)) (sym p) (sym q)) reached;
+        nodes = h .nodes;
+        links = h .links;
+        few-nodes = h .few-nodes;
+        few-links = h .few-links;
+        long-nodes = h .long-nodes;
+        long-links = h .long-links;
+        long-keys = h .long-keys;
+        long-near = h .long-near;
+        long-far = h .long-far;
+      }
 
 -- the input's end
 module _ (bytes : List ℕ) (t : Turn) (h : Holding bytes t) (l : length bytes ≤ t .at) where

@@ -25,6 +25,9 @@ tag-first k x e = rw e
 pub tag-later : {A : Type 0} {b : Bool} (k : A) {r x : A} → b ≡ false → r ≡ x → r ≡ cond b k x
 tag-later k e h = rw e h
 
+pub tag-is : (r : Refusing) (b : List ℕ) {k tag t : ℕ} → tag ≡ t → k ≡ bodyNumber r t b → k ≡ bodyNumber r tag b
+tag-is r b e h = h ∙ ap (λ (x : ℕ). bodyNumber r x b) (sym e)
+
 -- what is held after a body of each tag
 module _ (s : SoFar) (tag : ℕ) (b : List ℕ) where
   pub with-node : eqb tag 1 ≡ true → withBody s tag b ≡ withNode s (nodeIn b)
@@ -85,9 +88,9 @@ question-bounds number b e =
 -- ---- one field at a place
 
 -- the body as the code has it: from its first byte to the next field
-pub body-made : (bytes : List ℕ) (at w : ℕ) → w ≡ wordAt bytes (at + 1) → take (at + 3 + w - (at + 3)) (drop (at + 3) bytes) ≡ bodyAt bytes at
-body-made bytes at w e =
-    let k : at + 3 + w - (at + 3) ≡ wordAt bytes (at + 1) = omega arith in
+pub body-made : (bytes : List ℕ) (at next : ℕ) → next ≡ pastField bytes at → take (next - (at + 3)) (drop (at + 3) bytes) ≡ bodyAt bytes at
+body-made bytes at next e =
+    let k : next - (at + 3) ≡ wordAt bytes (at + 1) = omega arith in
     ap (λ (j : ℕ). take j (drop (at + 3) bytes)) k
 
 module _ (r : Refusing) (bytes : List ℕ) (at : ℕ) where
@@ -99,9 +102,9 @@ module _ (r : Refusing) (bytes : List ℕ) (at : ℕ) where
   unfolding fieldNumber
   field-whole k h e = passes 21 (le-ltb (length bytes) (pastField bytes at) h) e
 
-  pub field-made : (w k : ℕ) → w ≡ wordAt bytes (at + 1) → at + 3 + w ≤ length bytes
-      → k ≡ bodyNumber r (tagAt bytes at) (take (at + 3 + w - (at + 3)) (drop (at + 3) bytes)) → k ≡ fieldNumber r bytes at
-  field-made w k e h f = field-whole k (omega arith) (f ∙ ap (bodyNumber r (tagAt bytes at)) (body-made bytes at w e))
+  -- the same with the body at hand, and with the place past the field
+  pub field-made : (b : List ℕ) (k next : ℕ) → next ≡ pastField bytes at → next ≤ length bytes → b ≡ bodyAt bytes at → k ≡ bodyNumber r (tagAt bytes at) b → k ≡ fieldNumber r bytes at
+  field-made b k next e h f g = field-whole k (omega arith) (g ∙ ap (bodyNumber r (tagAt bytes at)) f)
 
   -- what its number of 0 says: it is whole, and its body has that number
   module _ (e : fieldNumber r bytes at ≡ 0) where

@@ -1,11 +1,29 @@
-// What a body of each tag says.
+// Where a field's body is, and what a body of each tag says.
 use chart::ChartNode;
 use chart::Link;
 ghost use mathlib.Core.Path.{_≡_};
-ghost use Prim.Native.Nat.{_+_, _≤_};
+ghost use Prim.Native.Nat.{_+_, _<_, _≤_};
 ghost use lib.ListN.{length};
 ghost use Rattle.lists.specs.Places.{row};
-ghost use Rattle.chart_read.specs.Fields.{bytesFrom, nodeIn, linkIn};
+ghost use Rattle.chart_read.specs.Fields.{pastField, bodyAt, bytesFrom, nodeIn, linkIn};
+
+// The place past the field that begins at a place.
+pub fn past_field(bytes: &[u8], at: usize) -> usize
+    requires { ⌜ at < length (now bytes) ⌝ }
+    ensures { λ r. ⌜ r ≡ pastField (now (bytes .entry)) at ⌝ }
+{
+    at + 3 + lists::word_at(bytes, at + 1) as usize
+}
+
+// The body of the field that begins at a place, which is whole.
+pub fn body_at(bytes: &[u8], at: usize) -> &[u8]
+    requires { ⌜ (at < length (now bytes)) × (pastField (now bytes) at ≤ length (now bytes)) ⌝ }
+    ensures { λ r. ⌜ now r ≡ bodyAt (now (bytes .entry)) at ⌝ }
+{
+    let body = at + 3;
+    let next = past_field(bytes, at);
+    &bytes[body..next]
+}
 
 // The label: n bytes after the station, and zeros after them.
 fn label_in(b: &[u8], n: usize) -> [u8; 24]

@@ -1,6 +1,8 @@
 // The chart's reader (document 01, "The chart"): tagged fields, taken one after the other.
+use bodies::body_at;
 use bodies::link_in;
 use bodies::node_in;
+use bodies::past_field;
 use chart::Chart;
 use chart::Links;
 use chart::Nodes;
@@ -55,23 +57,27 @@ pub fn read_chart(bytes: &[u8]) -> ChartRead
         if k != 0 {
             return refused_at(k, at);
         }
-        let body = at + 3;
-        let next = body + lists::word_at(bytes, at + 1) as usize;
-        if bytes[at] == NODE_TAG {
-            let node = node_in(&bytes[body..next]);
-            keys[n] = chart_keys::station_key(node.station);
-            nodes[n] = node;
-            n += 1;
-        } else if bytes[at] == LINK_TAG {
-            let link = link_in(&bytes[body..next]);
-            near[m] = chart_keys::end_key(link.a);
-            far[m] = chart_keys::end_key(link.b);
-            links[m] = link;
-            m += 1;
-        } else {
-            from = wide::station_in(&bytes[body..next], 0);
-            to = wide::station_in(&bytes[body..next], 3);
-            asked = true;
+        let b = body_at(bytes, at);
+        let next = past_field(bytes, at);
+        match bytes[at] {
+            NODE_TAG => {
+                let node = node_in(b);
+                keys[n] = chart_keys::station_key(node.station);
+                nodes[n] = node;
+                n += 1;
+            }
+            LINK_TAG => {
+                let link = link_in(b);
+                near[m] = chart_keys::end_key(link.a);
+                far[m] = chart_keys::end_key(link.b);
+                links[m] = link;
+                m += 1;
+            }
+            _ => {
+                from = wide::station_in(b, 0);
+                to = wide::station_in(b, 3);
+                asked = true;
+            }
         }
         at = next;
     }

@@ -1,13 +1,13 @@
 // The number of a field, by the keys of the nodes and links before it: the first n of `keys`, the first m of `near` and `far`.
+use crate::bodies::body_at;
 use crate::bodies::link_in;
 use crate::bodies::node_in;
+use crate::bodies::past_field;
 ghost use mathlib.Core.Path.{_≡_};
-ghost use mathlib.Core.Bool.{_||_};
 ghost use Prim.Native.Nat.{_<_};
 ghost use lib.ListN.{length};
-ghost use lib.Dec.{ltb};
 ghost use Rattle.chart_keys.specs.Keys.{nodeByKeys, linkByKeys, questionByKeys};
-ghost use Rattle.chart_read.specs.Reading.{nodeBodyNumber, linkBodyNumber, questionBodyNumber, bodyNumber, fieldNumber};
+ghost use Rattle.chart_read.specs.Reading.{nodeBodyNumber, linkBodyNumber, questionBodyNumber, fieldNumber};
 ghost use Rattle.chart_read.specs.ByKeys.{refusingBy};
 
 pub const NODE_TAG: u8 = 1;
@@ -35,7 +35,7 @@ fn node_body_number(late: bool, keys: &[u32; 16], n: usize, b: &[u8]) -> u8
         return 23;
     }
     let node = node_in(b);
-    chart_keys::node_number(late, keys, n, node)
+    chart_refuse::node_number(late, keys, n, node)
 }
 
 // A link's body.
@@ -57,7 +57,7 @@ fn link_body_number(
         return 24;
     }
     let l = link_in(b);
-    chart_keys::link_number(asked, keys, n, near, far, m, l)
+    chart_refuse::link_number(asked, keys, n, near, far, m, l)
 }
 
 // The question's body.
@@ -69,43 +69,7 @@ fn question_body_number(asked: bool, keys: &[u32; 16], n: usize, b: &[u8]) -> u8
     }
     let from = wide::station_in(b, 0);
     let to = wide::station_in(b, 3);
-    chart_keys::question_number(asked, keys, n, from, to)
-}
-
-// Whether a node comes too late.
-fn node_late(asked: bool, m: usize) -> bool
-    ensures { λ r. ⌜ r ≡ (asked || ltb 0 m) ⌝ }
-{
-    if asked {
-        return true;
-    }
-    0 < m
-}
-
-// A body, by its tag.
-fn body_number(
-    asked: bool,
-    keys: &[u32; 16],
-    n: usize,
-    near: &[u32; 48],
-    far: &[u32; 48],
-    m: usize,
-    tag: u8,
-    b: &[u8],
-) -> u8
-    ensures { λ r. ⌜ r ≡ bodyNumber (refusingBy asked (now (keys .entry)) n (now (near .entry)) (now (far .entry)) m) tag (now (b .entry)) ⌝ }
-{
-    if tag == NODE_TAG {
-        let late = node_late(asked, m);
-        return node_body_number(late, keys, n, b);
-    }
-    if tag == LINK_TAG {
-        return link_body_number(asked, keys, n, near, far, m, b);
-    }
-    if tag == QUESTION_TAG {
-        return question_body_number(asked, keys, n, b);
-    }
-    22
+    chart_refuse::question_number(asked, keys, n, from, to)
 }
 
 // The field that begins at a place.
@@ -122,16 +86,14 @@ pub fn field_number(
     requires { ⌜ at < length (now bytes) ⌝ }
     ensures { λ r. ⌜ r ≡ fieldNumber (refusingBy asked (now (keys .entry)) n (now (near .entry)) (now (far .entry)) m) (now (bytes .entry)) at ⌝ }
 {
-    let tag = bytes[at];
-    let total = bytes.len();
-    if total - at < 3 {
+    if bytes.len() < past_field(bytes, at) {
         return 21;
     }
-    let length = lists::word_at(bytes, at + 1) as usize;
-    let body = at + 3;
-    if total - body < length {
-        return 21;
+    let b = body_at(bytes, at);
+    match bytes[at] {
+        NODE_TAG => node_body_number(asked | (0 < m), keys, n, b),
+        LINK_TAG => link_body_number(asked, keys, n, near, far, m, b),
+        QUESTION_TAG => question_body_number(asked, keys, n, b),
+        _ => 22,
     }
-    let next = body + length;
-    body_number(asked, keys, n, near, far, m, tag, &bytes[body..next])
 }

@@ -1,0 +1,96 @@
+// The numbers 23 to 30 of one value, by the keys of the nodes and links before it.
+use crate::known::both_known;
+use crate::known::is_known;
+use crate::known::is_used;
+use crate::ranges::end_in_range;
+use crate::ranges::node_in_range;
+use address::Station;
+use address::same_station;
+use address::station_in_range;
+use address::station_of;
+use chart::ChartNode;
+use chart::LONGEST_LABEL;
+use chart::Link;
+use chart::MOST_LINKS;
+use chart::MOST_NODES;
+ghost use mathlib.Core.Path.{_≡_};
+ghost use Rattle.chart_keys.specs.Keys.{nodeByKeys, linkByKeys, questionByKeys};
+
+// The number that refuses a node after those with the first n keys, or 0. It is late after a link or the question.
+pub fn node_number(late: bool, keys: &[u32; 16], n: usize, node: ChartNode) -> u8
+    ensures { λ r. ⌜ r ≡ nodeByKeys late (now (keys .entry)) n node ⌝ }
+{
+    if LONGEST_LABEL < node.length {
+        return 23;
+    }
+    if !node_in_range(node) {
+        return 24;
+    }
+    if late {
+        return 25;
+    }
+    if MOST_NODES as usize <= n {
+        return 26;
+    }
+    if is_known(keys, n, node.station) {
+        return 27;
+    }
+    0
+}
+
+// The number that refuses a link after the nodes with the first n keys and the first m links, or 0. It is late after the question.
+pub fn link_number(
+    late: bool,
+    keys: &[u32; 16],
+    n: usize,
+    near: &[u32; 48],
+    far: &[u32; 48],
+    m: usize,
+    l: Link,
+) -> u8
+    ensures { λ r. ⌜ r ≡ linkByKeys late (now (keys .entry)) n (now (near .entry)) (now (far .entry)) m l ⌝ }
+{
+    if !(end_in_range(l.a) & end_in_range(l.b)) {
+        return 24;
+    }
+    if late {
+        return 25;
+    }
+    if (MOST_NODES as usize) < n {
+        return 26;
+    }
+    if MOST_LINKS as usize <= m {
+        return 26;
+    }
+    let a = station_of(l.a);
+    let b = station_of(l.b);
+    if !both_known(keys, n, a, b) {
+        return 28;
+    }
+    if same_station(a, b) {
+        return 29;
+    }
+    if is_used(near, far, m, l.a) | is_used(near, far, m, l.b) {
+        return 30;
+    }
+    0
+}
+
+// The number that refuses a question after the nodes with the first n keys, or 0. It is late after another.
+pub fn question_number(late: bool, keys: &[u32; 16], n: usize, from: Station, to: Station) -> u8
+    ensures { λ r. ⌜ r ≡ questionByKeys late (now (keys .entry)) n from to ⌝ }
+{
+    if !(station_in_range(from) & station_in_range(to)) {
+        return 24;
+    }
+    if late {
+        return 25;
+    }
+    if (MOST_NODES as usize) < n {
+        return 26;
+    }
+    if !both_known(keys, n, from, to) {
+        return 28;
+    }
+    0
+}
