@@ -23,18 +23,6 @@ pub bool-small : (b : Bool) → boolByte b ≤ 1
 bool-small true = omega arith
 bool-small false = omega arith
 
-pub stop1 : {x : Bool} (y : Bool) → x ≡ false → false ≡ (x && y)
-stop1 y p = rw p
-
-pub stop2 : {x y : Bool} (z : Bool) → x ≡ true → y ≡ false → false ≡ (x && y && z)
-stop2 z p q = rw (p, q)
-
-pub go1 : {x y : Bool} → x ≡ true → y ≡ (x && y)
-go1 p = rw p
-
-pub go2 : {x y z : Bool} → x ≡ true → y ≡ true → z ≡ (x && y && z)
-go2 p q = rw (p, q)
-
 pub and-left : (x y : Bool) → (x && y) ≡ true → x ≡ true
 and-left true y h = refl
 and-left false y h = h
@@ -64,10 +52,6 @@ pub ruleset told = (told-no, told-yes, told-true, told-false)
 
 pub and-no-left : {x : Bool} (y : Bool) → x ≡ false → (x && y) ≡ false
 and-no-left y p = rw p
-
-pub and-no-right : (x : Bool) {y : Bool} → y ≡ false → (x && y) ≡ false
-and-no-right true p = p
-and-no-right false p = refl
 
 pub or-no-left : (x y : Bool) → (x || y) ≡ false → x ≡ false
 or-no-left true y h = h

@@ -1,7 +1,7 @@
 -- A chain of tests at a `return`: the one that holds decides, those before it are passed.
 use Prim.Native.Nat.{ℕ, zero, suc, _+_, _-_, _<_}
 use mathlib.Core.Path.{_≡_, refl, sym, ap, _∙_}
-use mathlib.Core.Bool.{Bool, true, false, _||_}
+use mathlib.Core.Bool.{Bool, true, false}
 use native.Mathlib.Omega.{arith}
 use native.Mathlib.Numerals.{add-one}
 use native.Mathlib.Nat.{add-zero, add-suc}
@@ -15,13 +15,6 @@ stops n later e = rw e
 
 pub passes : (n : ℕ) {t : Bool} {r later : ℕ} → t ≡ false → r ≡ later → r ≡ refuse n t later
 passes n e h = rw e h
-
--- two tests of which one is enough
-pub or-left : {a : Bool} (b : Bool) → a ≡ true → (a || b) ≡ true
-or-left b e = rw e
-
-pub or-skip : {a b : Bool} → a ≡ false → (a || b) ≡ b
-or-skip e = rw e
 
 -- ---- the first number other than 0
 
