@@ -1,6 +1,5 @@
 // Clear removes a settled leg.
 use ledger::Ledger;
-use ledger::Leg;
 use ledger::Outcome;
 use ledger::is_open;
 use ledger::no_leg;

@@ -8,7 +8,7 @@ use address::Address;
 use address::LARGEST_SEQ;
 use address::Seq;
 ghost use mathlib.Core.Path.{_≡_};
-ghost use Rattle.ledger.specs.Rules.{isOpen, openLeg, ticksRight, legRight, obeys};
+ghost use Rattle.ledger.specs.Rules.{isOpen, openLeg, legRight, obeys};
 
 pub const MOST_LEGS: u8 = 128;
 
