@@ -43,9 +43,9 @@ build_example() {
 # Builds the program that prints a chart's sheet into a folder; what rt says is shown only where it fails.
 build_print() {
     mkdir -p "$1"
-    if ! rt check print >"$1/print.log" 2>&1; then
+    if ! rt check sheet_print >"$1/print.log" 2>&1; then
         cat "$1/print.log" >&2
         return 1
     fi
-    cp target/bin/print "$1/print"
+    cp target/bin/sheet_print "$1/print"
 }

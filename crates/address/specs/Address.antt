@@ -1,9 +1,7 @@
--- Stations and addresses (document 01, "Addresses and the envelope"; 003, section 3.2), and <comms_address> of appendix A.
-use Prim.Native.Nat.{ℕ, _+_, _*_, _/_, _%_}
+-- Stations and addresses (document 01, "Addresses and the envelope"; 003, section 3.2).
+use Prim.Native.Nat.{ℕ}
 use mathlib.Core.Bool.{Bool, _&&_}
-use mathlib.Core.List.{List, [], _∷_}
 use lib.Dec.{leb, eqb}
-use lib.ListN.{getD}
 use Rattle.address.specs.declared.Station.{Station}
 use Rattle.address.specs.declared.Address.{Address}
 
@@ -47,20 +45,3 @@ sameAddress a b = sameStation (stationOf a) (stationOf b) && eqb (a .port .0) (b
 -- the address with every number 0, which stands at an unused place
 abbrev pub zeroAddress : Address
 zeroAddress = record { brigade = 0; node = record { 0 = 0 }; port = record { 0 = 0 } }
-
--- <comms_address>, 24 bits, the highest first: 8 of the brigade, 10 of the node, 6 of the port; of a number out of range its low bits
-abbrev pub packOf : Address → List ℕ
-packOf a = a .brigade ∷ (a .node .0 / 4 % 256) ∷ (a .node .0 % 4 * 64 + a .port .0 % 64) ∷ []
-
--- the address whose three bytes begin at a place
-abbrev pub unpackAt : List ℕ → ℕ → Address
-unpackAt l at =
-    record {
-      brigade = getD l at 0;
-      node = record { 0 = getD l (at + 1) 0 * 4 + getD l (at + 2) 0 / 64 };
-      port = record { 0 = getD l (at + 2) 0 % 64 };
-    }
-
--- the 24 bits as one number
-abbrev pub keyOf : Address → ℕ
-keyOf a = a .brigade * 65536 + a .node .0 * 64 + a .port .0

@@ -2,27 +2,27 @@
 use mathlib.Core.Path.{_≡_, refl, sym, subst}
 use mathlib.Core.Logic.{_⊎_, inl, inr}
 use mathlib.Core.List.{List, [], _∷_, map, List·Memᴰ, List·Memᴰ·cases-cons, List·Memᴰ·not-nil, head-eq-of-cons-eq, tail-eq-of-cons-eq}
-use Rattle.lists.specs.Places.{anyBelow, firstBelow, elementAt, firsts, row, sameAt, repeatAt, repeats}
+use Rattle.lists.specs.Places.{anyBelow, firstFrom, firstBelow, elementAt, firsts, row, sameAt, repeatAt, repeats}
 use Rattle.lists.specs.Lists.{howMany}
 use Rattle.lists.specs.Refusals.{unlessRefused}
-use Rattle.lists.specs.Chains.{firstNumber}
+use Rattle.lists.specs.Chains.{firstRefusalBelow}
 use Rattle.address.specs.Address.{stationInRange, inRange, sameStation, sameAddress}
-use Rattle.route.specs.Route.{entryAt, isOwn, covers, qualifies, qualifiesAt, hasRoute, outPort, outOf, targetInRange, entryInRange, strayEntry, tableInRange, callInRange, chooseOf}
-use Rattle.ledger.specs.Rules.{legAt, isOpen, openLeg, alike, ticksRight, legRight, wrongAt, obeys}
-use Rattle.answer.specs.Answer.{standingFor, settled, withLeg, answeredAt, answeredPlace, answerNumber as legNumber, answerOf}
-use Rattle.tick.specs.Tick.{timesOut, ticked, tickedLedger, tickNumber, tickOf}
-use Rattle.ledger_laws.specs.Calls.{numberOf, after}
-use Rattle.chart.specs.Values.{noChart, nodeAt, linkAt, strayByte, nodeInRange, endInRange, linkInRange, standsAt, written, endsAt, used}
-use Rattle.chart.specs.Numbers.{nodeBy, linkBy, questionBy, nodeNumber, linkNumber, questionNumber}
+use Rattle.table.specs.Table.{entryAt, isOwn, covers, qualifies, qualifiesAt, hasRoute, outPort, outChoice, targetInRange, entryInRange, strayEntry, tableInRange, callInRange, chooseOf}
+use Rattle.ledger.specs.Rules.{legAt, isOpen, isOpenLeg, alike, ticksObey, legObeys, brokenAt, obeys}
+use Rattle.ledger_answer.specs.Answer.{standingFor, settled, withLeg, answeredAt, answeredPlace, answerRefusal, answerOf}
+use Rattle.ledger_tick.specs.Tick.{timesOut, tickedLeg, tickedLedger, tickRefusal, tickOf}
+use Rattle.ledger_laws.specs.Calls.{refusalOf, after}
+use Rattle.chart.specs.Values.{noChart, nodeAt, linkAt, strayByte, nodeInRange, endInRange, linkInRange, standsAt, hasNode, endsAt, hasEnd}
+use Rattle.chart.specs.Refusals.{nodeRefusalBy, linkRefusalBy, questionRefusalBy, nodeRefusal, linkRefusal, questionRefusal}
 use Rattle.chart.specs.Sample.{S, bytesS}
 use Rattle.chart_read.specs.Fields.{bytesFrom, nodeIn, linkIn}
-use Rattle.chart_read.specs.Reading.{nothing, withNode, withLink, withQuestion, withBody, nodeLate, refusing, nodeBodyNumber, linkBodyNumber, questionBodyNumber, bodyNumber, fieldNumber, walk, chartReadOf}
-use Rattle.chart_numbers.specs.Numbers.{nodeNumberAt, linkNumberAt, valuesNumber, chartNumber}
-use Rattle.routes.specs.Route.{also, only}
-use Rattle.routes.specs.All.{upFrom, linksFrom, over, tries, routes, unmet, allFrom, allRoutes, firstOf, sameLinks, nextOf}
-use Rattle.search.specs.Answers.{answerNumber, answerRoute, told, firstRefusal, nextRefusal}
-use Rattle.chart_net.specs.Net.{placeIn, crossed, farIn, chartNet, start, routesOf}
-use Rattle.trace.specs.Trace.{firstRefusalOf, nextRefusalOf, traceFirst, traceNext}
+use Rattle.chart_read.specs.Reading.{nothing, withNode, withLink, withQuestion, withBody, nodeLate, refusing, nodeBodyRefusal, linkBodyRefusal, questionBodyRefusal, bodyRefusal, fieldRefusal, walk, readChartOf}
+use Rattle.chart_refuse.specs.Refusal.{nodeRefusalAt, linkRefusalAt, chartValuesRefusal, chartRefusal}
+use Rattle.route.specs.Route.{also, only}
+use Rattle.route.specs.All.{upFrom, linksFrom, over, tries, routes, unmet, allFrom, allRoutes, firstOf, sameLinks, nextOf}
+use Rattle.route_search.specs.Answers.{findingRefusal, findingRoute, told, firstRefusal, nextRefusal}
+use Rattle.chart_net.specs.Net.{stationPlace, farEnd, chartNet, start, routesOf}
+use Rattle.route_trace.specs.Trace.{firstRefusalOf, nextRefusalOf, traceFirst, traceNext}
 use Rattle.cases.specs.Questions.{Back, listFrom, returnedBy, afterAll, answerTo}
 use Rattle.cases.specs.Values.{T, two, one}
 use Rattle.cases.specs.Rows.{Case, Holds, table, AllHold}
@@ -46,12 +46,12 @@ each (k ∷ ks) e c m = go (each ks (tail-eq-of-cons-eq e) c) (List·Memᴰ·cas
 
 -- they agree on the table
 computed : back table ≡ meant table
-unfolding chartReadOf walk unlessRefused nothing noChart fieldNumber bodyNumber refusing nodeBodyNumber linkBodyNumber questionBodyNumber nodeLate nodeIn linkIn bytesFrom withBody withNode withLink withQuestion nodeBy linkBy questionBy nodeNumber linkNumber questionNumber nodeInRange linkInRange endInRange stationInRange inRange sameStation sameAddress written used standsAt endsAt nodeAt linkAt strayByte anyBelow firstBelow elementAt firsts row also only upFrom linksFrom over tries routes unmet allFrom allRoutes sameLinks placeIn crossed farIn chartNet start routesOf chartNumber valuesNumber firstNumber nodeNumberAt linkNumberAt firstOf nextOf answerNumber answerRoute told firstRefusal nextRefusal firstRefusalOf nextRefusalOf traceFirst traceNext entryAt isOwn covers qualifies qualifiesAt hasRoute outPort outOf targetInRange entryInRange strayEntry tableInRange callInRange chooseOf sameAt repeatAt repeats howMany legAt isOpen openLeg alike ticksRight legRight wrongAt obeys standingFor settled withLeg answeredAt answeredPlace legNumber answerOf timesOut ticked tickedLedger tickNumber tickOf numberOf after S bytesS T two one listFrom returnedBy afterAll answerTo table
+unfolding readChartOf walk unlessRefused nothing noChart fieldRefusal bodyRefusal refusing nodeBodyRefusal linkBodyRefusal questionBodyRefusal nodeLate nodeIn linkIn bytesFrom withBody withNode withLink withQuestion nodeRefusalBy linkRefusalBy questionRefusalBy nodeRefusal linkRefusal questionRefusal nodeInRange linkInRange endInRange stationInRange inRange sameStation sameAddress hasNode hasEnd standsAt endsAt nodeAt linkAt strayByte anyBelow firstBelow firstFrom elementAt firsts row also only upFrom linksFrom over tries routes unmet allFrom allRoutes sameLinks stationPlace farEnd chartNet start routesOf chartRefusal chartValuesRefusal firstRefusalBelow nodeRefusalAt linkRefusalAt firstOf nextOf answerRefusal findingRoute findingRefusal told firstRefusal nextRefusal firstRefusalOf nextRefusalOf traceFirst traceNext entryAt isOwn covers qualifies qualifiesAt hasRoute outPort outChoice targetInRange entryInRange strayEntry tableInRange callInRange chooseOf sameAt repeatAt repeats howMany legAt isOpen isOpenLeg alike ticksObey legObeys brokenAt obeys standingFor settled withLeg answeredAt answeredPlace answerOf timesOut tickedLeg tickedLedger tickRefusal tickOf refusalOf after S bytesS T two one listFrom returnedBy afterAll answerTo table
 computed = refl
 
 pub all-hold : AllHold
 all-hold = each table computed
 
 pub slipped : Slipped
-unfolding chartReadOf walk unlessRefused nothing noChart fieldNumber bodyNumber refusing nodeBodyNumber linkBodyNumber questionBodyNumber nodeLate nodeIn linkIn bytesFrom withBody withNode withLink withQuestion nodeBy linkBy questionBy nodeNumber linkNumber questionNumber nodeInRange linkInRange endInRange stationInRange inRange sameStation sameAddress written used standsAt endsAt nodeAt linkAt strayByte anyBelow firstBelow elementAt firsts row also only upFrom linksFrom over tries routes unmet allFrom allRoutes sameLinks placeIn crossed farIn chartNet start routesOf bytesS
+unfolding readChartOf walk unlessRefused nothing noChart fieldRefusal bodyRefusal refusing nodeBodyRefusal linkBodyRefusal questionBodyRefusal nodeLate nodeIn linkIn bytesFrom withBody withNode withLink withQuestion nodeRefusalBy linkRefusalBy questionRefusalBy nodeRefusal linkRefusal questionRefusal nodeInRange linkInRange endInRange stationInRange inRange sameStation sameAddress hasNode hasEnd standsAt endsAt nodeAt linkAt strayByte anyBelow firstBelow firstFrom elementAt firsts row also only upFrom linksFrom over tries routes unmet allFrom allRoutes sameLinks stationPlace farEnd chartNet start routesOf bytesS
 slipped = record { right = refl; wrong = refl }

@@ -4,20 +4,20 @@ use mathlib.Core.List.{List, [], _∷_, _++_}
 use lib.ListN.{length, replicate, take}
 use Rattle.address.specs.declared.Port.{Port}
 use Rattle.address.specs.declared.Address.{Address}
-use Rattle.route.specs.declared.Table.{Table}
-use Rattle.route.specs.declared.Choice.{Choice}
-use Rattle.route.specs.Route.{chooseOf}
+use Rattle.table.specs.declared.Table.{Table}
+use Rattle.table.specs.declared.Choice.{Choice}
+use Rattle.table.specs.Table.{chooseOf}
 use Rattle.ledger.specs.declared.Ledger.{Ledger}
-use Rattle.tick.specs.Tick.{tickOf}
-use Rattle.accept.specs.Accept.{acceptOf}
-use Rattle.ledger_laws.specs.Calls.{Call, accepting, answering, ticking, clearing, numberOf, after}
+use Rattle.ledger_tick.specs.Tick.{tickOf}
+use Rattle.ledger_accept.specs.Accept.{acceptOf}
+use Rattle.ledger_laws.specs.Calls.{Call, accepting, answering, ticking, clearing, refusalOf, after}
 use Rattle.chart.specs.declared.Chart.{Chart}
 use Rattle.chart_read.specs.declared.ChartRead.{ChartRead}
-use Rattle.chart_read.specs.Reading.{chartReadOf}
-use Rattle.search.specs.declared.Traced.{Traced}
-use Rattle.search.specs.declared.Traced.the-variants.{Route, Refused}
-use Rattle.search.specs.Answers.{Told}
-use Rattle.trace.specs.Trace.{traceFirst, traceNext}
+use Rattle.chart_read.specs.Reading.{readChartOf}
+use Rattle.route_search.specs.declared.Traced.{Traced}
+use Rattle.route_search.specs.declared.Traced.the-variants.{Route, Refused}
+use Rattle.route_search.specs.Answers.{Told}
+use Rattle.route_trace.specs.Trace.{traceFirst, traceNext}
 
 -- ---- questions and answers
 
@@ -36,7 +36,7 @@ pub data Asked : Type 0 where
 
 -- the number and the count that a call on a ledger returns
 pub record Returned : Type 0 where
-  pub number : ℕ
+  pub refusal : ℕ
   pub count : ℕ
 
 pub data Back : Type 0 where
@@ -54,8 +54,8 @@ pub data Back : Type 0 where
 -- ---- what comes back
 
 -- the chart that the reader gives for its bytes
-abbrev pub chartIn : List ℕ → Chart
-chartIn bytes = chartReadOf bytes .chart
+abbrev pub chartFrom : List ℕ → Chart
+chartFrom bytes = readChartOf bytes .chart
 
 -- a lent buffer of 15 bytes with a route at its start
 abbrev pub lent : List ℕ → List ℕ
@@ -64,31 +64,31 @@ lent r = r ++ replicate (15 - length r) 0
 -- routes in turn, and the number that ended them
 pub record Listing : Type 0 where
   pub routes : List (List ℕ)
-  pub number : ℕ
+  pub refusal : ℕ
 
 -- after an answer: its route and what comes after it, or the refusal that ends the list
 abbrev pub goOn : Traced → (ℕ → Listing) → Listing
 goOn (Route n) more = more n
-goOn (Refused k) more = record { routes = []; number = k }
+goOn (Refused k) more = record { routes = []; refusal = k }
 
 -- one route more, before those listed
 abbrev pub before : List ℕ → Listing → Listing
-before r l = record { routes = r ∷ l .routes; number = l .number }
+before r l = record { routes = r ∷ l .routes; refusal = l .refusal }
 
 -- the routes from what was told on, each next one asked for on the buffer as it was left; where there are more than `most`, 0 ends them
 unfoldable pub listFrom : ℕ → Chart → Told → Listing
-listFrom zero c t = record { routes = []; number = 0 }
+listFrom zero c t = record { routes = []; refusal = 0 }
 listFrom (suc most) c t = goOn (t .answer) (λ n. before (take n (t .bytes)) (listFrom most c (traceNext c (t .bytes) n)))
 
 -- what a call returns beside its number: the legs added or timed out
-abbrev pub countOf : Ledger → Call → ℕ
-countOf l (accepting f arrival t ticks) = acceptOf l f arrival t ticks .added
-countOf l (answering by to seq reply) = 0
-countOf l ticking = tickOf l .ended
-countOf l (clearing place) = 0
+abbrev pub returnedCount : Ledger → Call → ℕ
+returnedCount l (accepting f arrival t ticks) = acceptOf l f arrival t ticks .added
+returnedCount l (answering by to seq reply) = 0
+returnedCount l ticking = tickOf l .ended
+returnedCount l (clearing place) = 0
 
 abbrev pub returned : Ledger → Call → Returned
-returned l c = record { number = numberOf l c; count = countOf l c }
+returned l c = record { refusal = refusalOf l c; count = returnedCount l c }
 
 -- what the calls return, one after the other
 unfoldable pub returnedBy : Ledger → List Call → List Returned
@@ -102,7 +102,7 @@ afterAll l (c ∷ cs) = afterAll (after l c) cs
 
 -- a list as an answer
 abbrev pub listedOf : Listing → Back
-listedOf l = listed (l .routes) (l .number)
+listedOf l = listed (l .routes) (l .refusal)
 
 -- what is told of a buffer
 abbrev pub toldOf : Told → Back
@@ -110,8 +110,8 @@ toldOf t = told (t .answer) (t .bytes)
 
 -- the answer to each question
 unfoldable pub answerTo : Asked → Back
-answerTo (reading bytes) = read (chartReadOf bytes)
-answerTo (listing bytes) = listedOf (listFrom 20 (chartIn bytes) (traceFirst (chartIn bytes) (lent [])))
-answerTo (following bytes r) = toldOf (traceNext (chartIn bytes) (lent r) (length r))
+answerTo (reading bytes) = read (readChartOf bytes)
+answerTo (listing bytes) = listedOf (listFrom 20 (chartFrom bytes) (traceFirst (chartFrom bytes) (lent [])))
+answerTo (following bytes r) = toldOf (traceNext (chartFrom bytes) (lent r) (length r))
 answerTo (choosing t d arrival) = chosen (chooseOf t d arrival)
 answerTo (calling l cs) = called (returnedBy l cs) (afterAll l cs)

@@ -2,13 +2,13 @@
 use Prim.Native.Nat.{ℕ}
 use mathlib.Core.Path.{_≡_}
 use mathlib.Core.List.{List, [], _∷_, List·Memᴰ}
-use Rattle.route.specs.declared.Choice.the-variants.{Local, Out, Refused}
+use Rattle.table.specs.declared.Choice.the-variants.{Local, Out, Refused}
 use Rattle.ledger.specs.declared.Standing.the-variants.{Open, Acknowledged, TimedOut}
-use Rattle.answer.specs.declared.Reply.the-variants.{Ack}
+use Rattle.ledger_answer.specs.declared.Reply.the-variants.{Ack}
 use Rattle.ledger_laws.specs.Calls.{answering, ticking}
 use Rattle.chart.specs.Sample.{S, bytesS}
 use Rattle.chart_read.specs.Reading.{refusedAt}
-use Rattle.search.specs.declared.Traced.the-variants.{Refused as NoRoute}
+use Rattle.route_search.specs.declared.Traced.the-variants.{Refused as NoRoute}
 use Rattle.cases.specs.Questions.{Asked, reading, listing, following, choosing, calling, Returned, Back, read, listed, told, chosen, called, lent, answerTo}
 use Rattle.cases.specs.Values.{port, seq, at, off, to, T, two, one}
 
@@ -34,12 +34,12 @@ refused k r = told (NoRoute k) (lent r)
 
 -- a call's number and count
 abbrev pub returns : ℕ → ℕ → Returned
-returns k n = record { number = k; count = n }
+returns k n = record { refusal = k; count = n }
 
 unfoldable pub table : List Case
 table =
     -- S itself, from its bytes
-    (reading bytesS ⟶ read (record { number = 0; place = 0; chart = S }))
+    (reading bytesS ⟶ read (record { refusal = 0; place = 0; chart = S }))
     -- P1: its four routes and no more
     ∷ (listing bytesS ⟶ listed ((0 ∷ 2 ∷ []) ∷ (0 ∷ 4 ∷ 3 ∷ []) ∷ (1 ∷ 3 ∷ []) ∷ (1 ∷ 4 ∷ 2 ∷ []) ∷ []) 43)
     -- P2: none after its last one

@@ -6,9 +6,9 @@ use lib.ListN.{replicate, set}
 use Rattle.address.specs.declared.Port.{Port}
 use Rattle.address.specs.declared.Seq.{Seq}
 use Rattle.address.specs.declared.Address.{Address}
-use Rattle.route.specs.declared.Target.the-variants.{One, Brigade, Everything}
-use Rattle.route.specs.declared.Table.{Table}
-use Rattle.route.specs.Route.{noEntry}
+use Rattle.table.specs.declared.Target.the-variants.{One, Brigade, Everything}
+use Rattle.table.specs.declared.Table.{Table}
+use Rattle.table.specs.Table.{noEntry}
 use Rattle.ledger.specs.declared.Standing.{Standing}
 use Rattle.ledger.specs.declared.Standing.the-variants.{Open}
 use Rattle.ledger.specs.declared.Leg.{Leg}

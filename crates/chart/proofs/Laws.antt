@@ -13,8 +13,8 @@ use Rattle.chart.specs.declared.ChartNode.{ChartNode}
 use Rattle.chart.specs.declared.Link.{Link}
 use Rattle.chart.specs.declared.Nodes.{Nodes}
 use Rattle.chart.specs.declared.Links.{Links}
-use Rattle.chart.specs.Values.{noNode, noLink, nodeAt, linkAt, nodeInRange, linkInRange, written, used}
-use Rattle.chart.specs.Numbers.{nodeBy, linkBy, questionBy, nodeNumber, linkNumber, questionNumber}
+use Rattle.chart.specs.Values.{noNode, noLink, nodeAt, linkAt, nodeInRange, linkInRange, hasNode, hasEnd}
+use Rattle.chart.specs.Refusals.{nodeRefusalBy, linkRefusalBy, questionRefusalBy, nodeRefusal, linkRefusal, questionRefusal}
 
 -- ---- what a loop reads at a place
 
@@ -34,10 +34,10 @@ pub record NodePassed (late : Bool) (ns : Nodes) (n : ChartNode) : Type 0 where
   pub ranged : nodeInRange n ≡ true
   pub timely : late ≡ false
   pub room : ns .count < 16
-  pub fresh : written ns (n .station) ≡ false
+  pub fresh : hasNode ns (n .station) ≡ false
 
-pub node-passed : (late : Bool) (ns : Nodes) (n : ChartNode) → nodeNumber late ns n ≡ 0 → NodePassed late ns n
-unfolding nodeNumber nodeBy
+pub node-passed : (late : Bool) (ns : Nodes) (n : ChartNode) → nodeRefusal late ns n ≡ 0 → NodePassed late ns n
+unfolding nodeRefusal nodeRefusalBy
 node-passed late ns n e =
     let p = pass 22 (ltb 24 (n .length)) _ e in
     let q = pass 23 (not (nodeInRange n)) _ (p .1) in
@@ -48,7 +48,7 @@ node-passed late ns n e =
       ranged = not-false (nodeInRange n) (q .0);
       timely = r .0;
       room = leb-false 16 (ns .count) (t .0);
-      fresh = pass 26 (written ns (n .station)) _ (t .1) .0;
+      fresh = pass 26 (hasNode ns (n .station)) _ (t .1) .0;
     }
 
 -- a link that is let pass
@@ -57,27 +57,27 @@ pub record LinkPassed (late : Bool) (ns : Nodes) (ls : Links) (l : Link) : Type 
   pub timely : late ≡ false
   pub few : ns .count ≤ 16
   pub room : ls .count < 48
-  pub ends : (written ns (stationOf (l .a)) && written ns (stationOf (l .b))) ≡ true
+  pub ends : (hasNode ns (stationOf (l .a)) && hasNode ns (stationOf (l .b))) ≡ true
   pub apart : sameStation (stationOf (l .a)) (stationOf (l .b)) ≡ false
-  pub fresh : (used ls (l .a) || used ls (l .b)) ≡ false
+  pub fresh : (hasEnd ls (l .a) || hasEnd ls (l .b)) ≡ false
 
-pub link-passed : (late : Bool) (ns : Nodes) (ls : Links) (l : Link) → linkNumber late ns ls l ≡ 0 → LinkPassed late ns ls l
-unfolding linkNumber linkBy
+pub link-passed : (late : Bool) (ns : Nodes) (ls : Links) (l : Link) → linkRefusal late ns ls l ≡ 0 → LinkPassed late ns ls l
+unfolding linkRefusal linkRefusalBy
 link-passed late ns ls l e =
     let p = pass 23 (not (linkInRange l)) _ e in
     let q = pass 24 late _ (p .1) in
     let r = pass 25 (ltb 16 (ns .count)) _ (q .1) in
     let t = pass 25 (leb 48 (ls .count)) _ (r .1) in
-    let u = pass 27 (not (written ns (stationOf (l .a)) && written ns (stationOf (l .b)))) _ (t .1) in
+    let u = pass 27 (not (hasNode ns (stationOf (l .a)) && hasNode ns (stationOf (l .b)))) _ (t .1) in
     let v = pass 28 (sameStation (stationOf (l .a)) (stationOf (l .b))) _ (u .1) in
     record {
       ranged = not-false (linkInRange l) (p .0);
       timely = q .0;
       few = ltb-false 16 (ns .count) (r .0);
       room = leb-false 48 (ls .count) (t .0);
-      ends = not-false (written ns (stationOf (l .a)) && written ns (stationOf (l .b))) (u .0);
+      ends = not-false (hasNode ns (stationOf (l .a)) && hasNode ns (stationOf (l .b))) (u .0);
       apart = v .0;
-      fresh = pass 29 (used ls (l .a) || used ls (l .b)) _ (v .1) .0;
+      fresh = pass 29 (hasEnd ls (l .a) || hasEnd ls (l .b)) _ (v .1) .0;
     }
 
 -- a question that is let pass
@@ -85,18 +85,18 @@ pub record QuestionPassed (late : Bool) (ns : Nodes) (from to : Station) : Type 
   pub ranged : (stationInRange from && stationInRange to) ≡ true
   pub timely : late ≡ false
   pub few : ns .count ≤ 16
-  pub ends : (written ns from && written ns to) ≡ true
+  pub ends : (hasNode ns from && hasNode ns to) ≡ true
 
-pub question-passed : (late : Bool) (ns : Nodes) (from to : Station) → questionNumber late ns from to ≡ 0 → QuestionPassed late ns from to
-unfolding questionNumber questionBy
+pub question-passed : (late : Bool) (ns : Nodes) (from to : Station) → questionRefusal late ns from to ≡ 0 → QuestionPassed late ns from to
+unfolding questionRefusal questionRefusalBy
 question-passed late ns from to e =
     let p = pass 23 (not (stationInRange from && stationInRange to)) _ e in
     let q = pass 24 late _ (p .1) in
     let r = pass 25 (ltb 16 (ns .count)) _ (q .1) in
-    let t = pass 27 (not (written ns from && written ns to)) _ (r .1) in
+    let t = pass 27 (not (hasNode ns from && hasNode ns to)) _ (r .1) in
     record {
       ranged = not-false (stationInRange from && stationInRange to) (p .0);
       timely = q .0;
       few = ltb-false 16 (ns .count) (r .0);
-      ends = not-false (written ns from && written ns to) (t .0);
+      ends = not-false (hasNode ns from && hasNode ns to) (t .0);
     }

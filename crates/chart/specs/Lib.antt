@@ -1,4 +1,3 @@
 pub mod Values
-pub mod Numbers
+pub mod Refusals
 pub mod Sample
-pub mod Image

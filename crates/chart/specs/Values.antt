@@ -82,13 +82,13 @@ unfoldable pub standsAt : Nodes → Station → ℕ → Bool
 standsAt ns s i = sameStation (nodeAt ns i .station) s
 
 -- a node at this station is among the nodes
-unfoldable pub written : Nodes → Station → Bool
-written ns s = anyBelow (standsAt ns s) (ns .count)
+unfoldable pub hasNode : Nodes → Station → Bool
+hasNode ns s = anyBelow (standsAt ns s) (ns .count)
 
 -- the address is an end of the link at a place
 unfoldable pub endsAt : Links → Address → ℕ → Bool
 endsAt ls e i = sameAddress (linkAt ls i .a) e || sameAddress (linkAt ls i .b) e
 
 -- the address is an end of one of the links
-unfoldable pub used : Links → Address → Bool
-used ls e = anyBelow (endsAt ls e) (ls .count)
+unfoldable pub hasEnd : Links → Address → Bool
+hasEnd ls e = anyBelow (endsAt ls e) (ls .count)

@@ -12,7 +12,7 @@ pub const MOST_LINKS: u8 = 48;
 
 pub const LONGEST_LABEL: u8 = 24;
 
-// A node: its station, and the first `length` bytes of its label. Nothing but the label itself hangs on a label.
+// A node: its station, and the first `length` bytes of its label. No rule depends on labels.
 pub struct ChartNode {
     pub station: Station,
     pub length: u8,

@@ -16,19 +16,18 @@ use Rattle.chart.specs.declared.Link.{Link}
 use Rattle.chart.specs.declared.Nodes.{Nodes}
 use Rattle.chart.specs.declared.Links.{Links}
 use Rattle.chart.specs.declared.Chart.{Chart}
-use Rattle.chart.specs.Values.{nodeAt, linkAt, written}
+use Rattle.chart.specs.Values.{nodeAt, linkAt, hasNode}
 use Rattle.chart.proofs.Laws.{link-read}
-use Rattle.routes.specs.Route.{Net, Sound}
-use Rattle.routes.specs.All.{allRoutes}
-use Rattle.routes.proofs.SameNet.{Alike, routes-agree}
-use Rattle.search.specs.declared.Far.the-variants.{Node, None}
-use Rattle.search.specs.Net.{nodePlace, otherOf, farOf, nodeOf, net}
-use Rattle.search.specs.Answers.{routesIn}
-use Rattle.search.proofs.Leading.{far-in, sound}
+use Rattle.route.specs.Route.{Net, Sound}
+use Rattle.route.specs.All.{allRoutes}
+use Rattle.route.proofs.SameNet.{Alike, routes-agree}
+use Rattle.route_search.specs.declared.Far.the-variants.{Node, None}
+use Rattle.route_search.specs.Contracts.{nodePlace, otherEnd, farNode, nodeOf, net, routesOver}
+use Rattle.route_search.proofs.Leading.{far-in, sound}
 use Rattle.chart_write.specs.Promises.{Accepted}
-use Rattle.chart_net.specs.Net.{placeIn, crossed, across, placed, farIn, chartNet, start, routesOf}
-use Rattle.chart_net.specs.Arrays.{placeFor, endPlaces, endPlacesAt, wayOf, wayAt, endsFor, waysFor, routesKept}
-use Rattle.chart_net.proofs.Places.{place-written, place-few, at-place}
+use Rattle.chart_net.specs.Net.{stationPlace, across, placed, farEnd, chartNet, start, routesOf}
+use Rattle.chart_net.specs.Contracts.{stationPlaceFor, endPlaces, endPlacesAt, passageOf, passageAt, endsFor, passagesFor, arrayRoutes}
+use Rattle.chart_net.proofs.Places.{crossed, place-written, place-few, at-place}
 
 -- ---- the arrays, an element at a time
 
@@ -42,29 +41,29 @@ ends-at : (ns : Nodes) (ls : Links) (i : ℕ) → ls .count ≤ 48 → i < ls .c
 unfolding endsFor
 ends-at ns ls i h k = rw (le-ltb 48 (ls .count) h) (row-read 48 (0 ∷ 0 ∷ []) [] (endPlacesAt ns ls) (ls .count) i h k)
 
-way-at : (ls : Links) (i : ℕ) → ls .count ≤ 48 → i < ls .count → getD (waysFor ls) i 0 ≡ wayAt ls i
-unfolding waysFor
-way-at ls i h k = rw (le-ltb 48 (ls .count) h) (row-read 48 0 0 (wayAt ls) (ls .count) i h k)
+way-at : (ls : Links) (i : ℕ) → ls .count ≤ 48 → i < ls .count → getD (passagesFor ls) i 0 ≡ passageAt ls i
+unfolding passagesFor
+way-at ls i h k = rw (le-ltb 48 (ls .count) h) (row-read 48 0 0 (passageAt ls) (ls .count) i h k)
 
 -- ---- filling the arrays, a link a turn
 
 module _ (ls : Links) where
-  pub ways-many : 48 < ls .count → replicate 48 0 ≡ waysFor ls
-  unfolding waysFor
+  pub ways-many : 48 < ls .count → replicate 48 0 ≡ passagesFor ls
+  unfolding passagesFor
   ways-many h = rw (lt-ltb 48 (ls .count) h)
 
-  pub ways-none : replicate 48 0 ≡ row 48 0 (wayAt ls) 0
-  ways-none = sym (row-none 48 0 (wayAt ls))
+  pub ways-none : replicate 48 0 ≡ row 48 0 (passageAt ls) 0
+  ways-none = sym (row-none 48 0 (passageAt ls))
 
-  pub ways-next : (ways : List ℕ) (d : Link) (i w : ℕ) → i < 48 → i < length (ls .items) → ways ≡ row 48 0 (wayAt ls) i → w ≡ wayOf (getD (ls .items) i d)
-      → set ways i w ≡ row 48 0 (wayAt ls) (i + 1)
-  unfolding wayAt
+  pub ways-next : (ways : List ℕ) (d : Link) (i w : ℕ) → i < 48 → i < length (ls .items) → ways ≡ row 48 0 (passageAt ls) i → w ≡ passageOf (getD (ls .items) i d)
+      → set ways i w ≡ row 48 0 (passageAt ls) (i + 1)
+  unfolding passageAt
   ways-next ways d i w h k e q =
-      ap₂ (λ (l : List ℕ) (x : ℕ). set l i x) e (q ∙ ap wayOf (link-read ls d i k)) ∙ row-next 48 0 (wayAt ls) i h
+      ap₂ (λ (l : List ℕ) (x : ℕ). set l i x) e (q ∙ ap passageOf (link-read ls d i k)) ∙ row-next 48 0 (passageAt ls) i h
 
-  pub ways-all : (ways : List ℕ) (i : ℕ) → ls .count ≤ 48 → i ≡ ls .count → ways ≡ row 48 0 (wayAt ls) i → ways ≡ waysFor ls
-  unfolding waysFor
-  ways-all ways i h e q = rw (le-ltb 48 (ls .count) h) (q ∙ ap (row 48 0 (wayAt ls)) e)
+  pub ways-all : (ways : List ℕ) (i : ℕ) → ls .count ≤ 48 → i ≡ ls .count → ways ≡ row 48 0 (passageAt ls) i → ways ≡ passagesFor ls
+  unfolding passagesFor
+  ways-all ways i h e q = rw (le-ltb 48 (ls .count) h) (q ∙ ap (row 48 0 (passageAt ls)) e)
 
   module _ (ns : Nodes) where
     abbrev two : List ℕ
@@ -89,8 +88,8 @@ module _ (ls : Links) where
 
 -- ---- far ends: of the chart, and of the arrays
 
-far-there : (ns : Nodes) (ls : Links) (i a : ℕ) → i < ls .count → farIn ns ls i a ≡ placed ns (across (linkAt ls i) (nodeAt ns a .station))
-unfolding farIn
+far-there : (ns : Nodes) (ls : Links) (i a : ℕ) → i < ls .count → farEnd ns ls i a ≡ placed ns (across (linkAt ls i) (nodeAt ns a .station))
+unfolding farEnd
 far-there ns ls i a h = rw (lt-ltb i (ls .count) h)
 
 node-there : (m : ℕ) → m < 16 → nodePlace m ≡ Node m
@@ -98,9 +97,8 @@ unfolding nodePlace
 node-there m h = rw (lt-ltb m 16 h)
 
 -- a link from a node leads to the same place, whether one goes by stations or by places
-one-link : (ns : Nodes) (l : Link) (x y a : ℕ) → placeIn ns (stationOf (l .a)) ≡ x → placeIn ns (stationOf (l .b)) ≡ y → x < 16 → y < 16 → (on p q : Bool)
+one-link : (ns : Nodes) (l : Link) (x y a : ℕ) → stationPlace ns (stationOf (l .a)) ≡ x → stationPlace ns (stationOf (l .b)) ≡ y → x < 16 → y < 16 → (on p q : Bool)
     → placed ns (crossed on p q l) ≡ nodeOf (cond (eqb (cond on 1 0) 1) (cond p (nodePlace y) (cond q (nodePlace x) None)) None)
-unfolding crossed
 one-link ns l x y a ex ey hx hy false p q = refl
 one-link ns l x y a ex ey hx hy true true q = rw (node-there y hy) (ap some ey)
 one-link ns l x y a ex ey hx hy true false true = rw (node-there x hx) (ap some ex)
@@ -113,44 +111,43 @@ module _ (c : Chart) (ok : Accepted c) where
   abbrev ls : Links
   ls = c .links
 
-  below-16 : (s : Station) → written (c .nodes) s ≡ true → placeIn (c .nodes) s < 16
+  below-16 : (s : Station) → hasNode (c .nodes) s ≡ true → stationPlace (c .nodes) s < 16
   below-16 s w = let h = place-written (c .nodes) s w in let k = ok .few-nodes in omega arith
 
   far-same : (i a : ℕ) → i < c .links .count → a < c .nodes .count
-      → farIn (c .nodes) (c .links) i a ≡ nodeOf (farOf (endsFor (c .nodes) (c .links)) (waysFor (c .links)) (c .links .count) i a)
-  unfolding otherOf endPlacesAt endPlaces wayAt wayOf
+      → farEnd (c .nodes) (c .links) i a ≡ nodeOf (farNode (endsFor (c .nodes) (c .links)) (passagesFor (c .links)) (c .links .count) i a)
+  unfolding otherEnd endPlacesAt endPlaces passageAt passageOf
   far-same i a h k =
       let l = linkAt ls i in
       let j = ok .joins i h in
-      let x = placeIn ns (stationOf (l .a)) in
-      let y = placeIn ns (stationOf (l .b)) in
-      let e : farOf (endsFor ns ls) (waysFor ls) (ls .count) i a ≡ otherOf (x ∷ y ∷ []) (cond (l .on) 1 0) a =
-      far-in (endsFor ns ls) (waysFor ls) (ls .count) i a h
-      ∙ ap₂ (λ (es : List ℕ) (w : ℕ). otherOf es w a) (ends-at ns ls i (ok .few-links) h) (way-at ls i (ok .few-links) h)
-      ∙ ap₂ (λ (p q : ℕ). otherOf (p ∷ q ∷ []) (cond (l .on) 1 0) a) (place-few ns (stationOf (l .a)) (ok .few-nodes)) (place-few ns (stationOf (l .b)) (ok .few-nodes))
+      let x = stationPlace ns (stationOf (l .a)) in
+      let y = stationPlace ns (stationOf (l .b)) in
+      let e : farNode (endsFor ns ls) (passagesFor ls) (ls .count) i a ≡ otherEnd (x ∷ y ∷ []) (cond (l .on) 1 0) a =
+      far-in (endsFor ns ls) (passagesFor ls) (ls .count) i a h
+      ∙ ap₂ (λ (es : List ℕ) (w : ℕ). otherEnd es w a) (ends-at ns ls i (ok .few-links) h) (way-at ls i (ok .few-links) h)
+      ∙ ap₂ (λ (p q : ℕ). otherEnd (p ∷ q ∷ []) (cond (l .on) 1 0) a) (place-few ns (stationOf (l .a)) (ok .few-nodes)) (place-few ns (stationOf (l .b)) (ok .few-nodes))
       in
       far-there ns ls i a h
       ∙ ap₂ (λ (p q : Bool). placed ns (crossed (l .on) p q l)) (at-place ns (ok .once) (stationOf (l .a)) a k) (at-place ns (ok .once) (stationOf (l .b)) a k)
       ∙ one-link ns l x y a refl refl (below-16 (stationOf (l .a)) (j .a)) (below-16 (stationOf (l .b)) (j .b)) (l .on) (eqb x a) (eqb y a)
       ∙ ap nodeOf (sym e)
 
-  crossed-sound : (l : Link) (f : ℕ) → written (c .nodes) (stationOf (l .a)) ≡ true → written (c .nodes) (stationOf (l .b)) ≡ true
+  crossed-sound : (l : Link) (f : ℕ) → hasNode (c .nodes) (stationOf (l .a)) ≡ true → hasNode (c .nodes) (stationOf (l .b)) ≡ true
       → (on p q : Bool) → placed (c .nodes) (crossed on p q l) ≡ some f → f < c .nodes .count
-  unfolding crossed
   crossed-sound l f wa wb false p q e = absurd (Option·none-ne-some f e)
   crossed-sound l f wa wb true true q e =
-      let z : placeIn ns (stationOf (l .b)) ≡ f = Option·some-injective _ _ e in
+      let z : stationPlace ns (stationOf (l .b)) ≡ f = Option·some-injective _ _ e in
       let h = place-written ns (stationOf (l .b)) wb in
       omega arith
   crossed-sound l f wa wb true false true e =
-      let z : placeIn ns (stationOf (l .a)) ≡ f = Option·some-injective _ _ e in
+      let z : stationPlace ns (stationOf (l .a)) ≡ f = Option·some-injective _ _ e in
       let h = place-written ns (stationOf (l .a)) wa in
       omega arith
   crossed-sound l f wa wb true false false e = absurd (Option·none-ne-some f e)
 
   -- every far end of an accepted chart is a node of it
   pub chart-sound : Sound (chartNet c)
-  unfolding chartNet farIn
+  unfolding chartNet farEnd
   chart-sound i a f e = go (ltb i (ls .count)) refl e
     where
       go : (b : Bool) → ltb i (c .links .count) ≡ b → cond b (placed (c .nodes) (across (linkAt (c .links) i) (nodeAt (c .nodes) a .station))) none ≡ some f → f < c .nodes .count
@@ -165,15 +162,15 @@ module _ (c : Chart) (ok : Accepted c) where
   start-below = place-written (c .nodes) (c .from) (ok .from)
 
   abbrev kept : Net
-  kept = net (endsFor (c .nodes) (c .links)) (waysFor (c .links)) (c .links .count) (placeFor (c .nodes) (c .to))
+  kept = net (endsFor (c .nodes) (c .links)) (passagesFor (c .links)) (c .links .count) (stationPlaceFor (c .nodes) (c .to))
 
-  alike : Alike (chartNet c) (net (endsFor (c .nodes) (c .links)) (waysFor (c .links)) (c .links .count) (placeFor (c .nodes) (c .to)))
+  alike : Alike (chartNet c) (net (endsFor (c .nodes) (c .links)) (passagesFor (c .links)) (c .links .count) (stationPlaceFor (c .nodes) (c .to)))
   unfolding chartNet
   alike = record { links = refl; goal = sym (place-few ns (c .to) (ok .few-nodes)); far = λ i a h k. far-same i a h k }
 
   -- what the trace keeps has the chart's routes
-  pub routes-kept : routesKept c ≡ routesOf c
-  unfolding routesKept routesIn routesOf start chartNet
+  pub routes-kept : arrayRoutes c ≡ routesOf c
+  unfolding arrayRoutes routesOver routesOf start chartNet
   routes-kept =
       ap (allRoutes kept) (place-few ns (c .from) (ok .few-nodes))
-      ∙ sym (routes-agree (chartNet c) kept alike chart-sound (sound (endsFor ns ls) (waysFor ls) (ls .count) (placeFor ns (c .to))) (start c) start-below)
+      ∙ sym (routes-agree (chartNet c) kept alike chart-sound (sound (endsFor ns ls) (passagesFor ls) (ls .count) (stationPlaceFor ns (c .to))) (start c) start-below)

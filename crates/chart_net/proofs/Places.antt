@@ -1,7 +1,8 @@
 -- Places by station: in a chart that writes no node twice, a node's own station has its place, and no other has.
 use Prim.Native.Nat.{ℕ, _<_, _≤_}
 use mathlib.Core.Path.{_≡_, refl, sym, ap, _∙_}
-use mathlib.Core.Bool.{true, false}
+use mathlib.Core.Bool.{Bool, true, false, cond}
+use mathlib.Core.Option.{Option, none, some}
 use mathlib.Core.List.{List}
 use native.Mathlib.Omega.{arith}
 use borrow.Author.Tests.{eqb-true, eq-eqb, lt-ltb, le-ltb}
@@ -10,14 +11,19 @@ use Rattle.lists.specs.Places.{anyBelow, firstBelow}
 use Rattle.lists.proofs.Bools.{and-left, and-right, both-same}
 use Rattle.lists.proofs.Places.{any-agree, first-stop, first-found, first-none, first-below}
 use Rattle.address.specs.declared.Station.{Station}
-use Rattle.address.specs.Address.{sameStation}
+use Rattle.address.specs.Address.{stationOf, sameStation}
+use Rattle.chart.specs.declared.Link.{Link}
 use Rattle.chart.specs.declared.Nodes.{Nodes}
-use Rattle.chart.specs.Values.{nodeAt, standsAt, written}
-use Rattle.chart_keys.specs.Keys.{StationKeyed, KeysOf, keyIs}
-use Rattle.chart_keys.proofs.ByKeys.{keyed-of, stands-keyed}
-use Rattle.chart_numbers.specs.Numbers.{nodesBefore}
-use Rattle.chart_net.specs.Net.{placeIn}
-use Rattle.chart_net.specs.Arrays.{placeFor}
+use Rattle.chart.specs.Values.{nodeAt, standsAt, hasNode}
+use Rattle.chart_refuse.specs.Contracts.{StationKeyed, KeysOf, keyIs}
+use Rattle.chart_refuse.proofs.ByKeys.{keyed-of, stands-keyed}
+use Rattle.chart_refuse.specs.Refusal.{nodesBefore}
+use Rattle.chart_net.specs.Net.{stationPlace}
+use Rattle.chart_net.specs.Contracts.{stationPlaceFor}
+
+-- the tests that `across` asks, one by one
+abbrev pub crossed : Bool → Bool → Bool → Link → Option Station
+crossed on p q l = cond on (cond p (some (stationOf (l .b))) (cond q (some (stationOf (l .a))) none)) none
 
 -- ---- stations that are the same are one
 
@@ -42,12 +48,12 @@ station-sym s t = both-same (sameStation s t) (sameStation t s) (λ e. turn s t 
 
 module _ (ns : Nodes) (s : Station) where
   -- a search that stops, and one that does not
-  pub place-here : (i : ℕ) → i < ns .count → anyBelow (standsAt ns s) i ≡ false → standsAt ns s i ≡ true → i ≡ placeIn ns s
-  unfolding placeIn
+  pub place-here : (i : ℕ) → i < ns .count → anyBelow (standsAt ns s) i ≡ false → standsAt ns s i ≡ true → i ≡ stationPlace ns s
+  unfolding stationPlace
   place-here i h n e = sym (first-stop (standsAt ns s) (ns .count) i (record { below = h; passes = e; none-before = n }))
 
-  pub place-none : (i : ℕ) → i ≡ ns .count → anyBelow (standsAt ns s) i ≡ false → i ≡ placeIn ns s
-  unfolding placeIn
+  pub place-none : (i : ℕ) → i ≡ ns .count → anyBelow (standsAt ns s) i ≡ false → i ≡ stationPlace ns s
+  unfolding stationPlace
   place-none i e n =
       let m : anyBelow (standsAt ns s) (ns .count) ≡ false = ap (anyBelow (standsAt ns s)) (sym e) ∙ n in
       e ∙ sym (first-none (standsAt ns s) (ns .count) m)
@@ -60,45 +66,45 @@ module _ (ns : Nodes) (s : Station) where
     none-key : (i : ℕ) → i ≤ ns .count → anyBelow (keyIs keys k) i ≡ false → anyBelow (standsAt ns s) i ≡ false
     none-key i l n = sym (any-agree (keyIs keys k) (standsAt ns s) i (λ j m. stands-key j (omega arith))) ∙ n
 
-    pub key-here : (i : ℕ) → i < ns .count → anyBelow (keyIs keys k) i ≡ false → keyIs keys k i ≡ true → i ≡ placeIn ns s
+    pub key-here : (i : ℕ) → i < ns .count → anyBelow (keyIs keys k) i ≡ false → keyIs keys k i ≡ true → i ≡ stationPlace ns s
     key-here i l n q = place-here i l (none-key i (omega arith) n) (sym (stands-key i l) ∙ q)
 
-    pub key-none : (i : ℕ) → i ≡ ns .count → anyBelow (keyIs keys k) i ≡ false → i ≡ placeIn ns s
+    pub key-none : (i : ℕ) → i ≡ ns .count → anyBelow (keyIs keys k) i ≡ false → i ≡ stationPlace ns s
     key-none i q n = place-none i q (none-key i (omega arith) n)
 
   -- a station that is written has a place among the nodes
-  pub place-written : written ns s ≡ true → placeIn ns s < ns .count
-  unfolding written placeIn
+  pub place-written : hasNode ns s ≡ true → stationPlace ns s < ns .count
+  unfolding hasNode stationPlace
   place-written e = first-found (standsAt ns s) (ns .count) e .below
 
   -- where the nodes are not too many
-  pub place-few : ns .count ≤ 16 → placeFor ns s ≡ placeIn ns s
-  unfolding placeFor
+  pub place-few : ns .count ≤ 16 → stationPlaceFor ns s ≡ stationPlace ns s
+  unfolding stationPlaceFor
   place-few h = rw (le-ltb 16 (ns .count) h)
 
-  pub place-many : 16 < ns .count → 16 ≡ placeFor ns s
-  unfolding placeFor
+  pub place-many : 16 < ns .count → 16 ≡ stationPlaceFor ns s
+  unfolding stationPlaceFor
   place-many h = rw (lt-ltb 16 (ns .count) h)
 
-module _ (ns : Nodes) (once : (i : ℕ) → i < ns .count → written (nodesBefore ns i) (nodeAt ns i .station) ≡ false) where
+module _ (ns : Nodes) (once : (i : ℕ) → i < ns .count → hasNode (nodesBefore ns i) (nodeAt ns i .station) ≡ false) where
   -- each node has its own place
-  own-place : (a : ℕ) → a < ns .count → placeIn ns (nodeAt ns a .station) ≡ a
-  unfolding written standsAt nodeAt
+  own-place : (a : ℕ) → a < ns .count → stationPlace ns (nodeAt ns a .station) ≡ a
+  unfolding hasNode standsAt nodeAt
   own-place a h = sym (place-here ns (nodeAt ns a .station) a h (once a h) (station-refl (nodeAt ns a .station)))
 
   -- the node at a station's place stands there
-  stands-there : (s : Station) (k : ℕ) → placeIn ns s ≡ k → k < ns .count → sameStation (nodeAt ns k .station) s ≡ true
-  unfolding placeIn standsAt
+  stands-there : (s : Station) (k : ℕ) → stationPlace ns s ≡ k → k < ns .count → sameStation (nodeAt ns k .station) s ≡ true
+  unfolding stationPlace standsAt
   stands-there s k q l =
       let m : firstBelow (standsAt ns s) (ns .count) < ns .count = omega arith in
       ap (standsAt ns s) (sym q) ∙ first-found (standsAt ns s) (ns .count) (first-below (standsAt ns s) (ns .count) m) .passes
 
   -- a station has the place of the node that stands at it, and no other
-  pub at-place : (s : Station) (a : ℕ) → a < ns .count → sameStation s (nodeAt ns a .station) ≡ eqb (placeIn ns s) a
-  at-place s a h = both-same (sameStation s (nodeAt ns a .station)) (eqb (placeIn ns s) a) to from
+  pub at-place : (s : Station) (a : ℕ) → a < ns .count → sameStation s (nodeAt ns a .station) ≡ eqb (stationPlace ns s) a
+  at-place s a h = both-same (sameStation s (nodeAt ns a .station)) (eqb (stationPlace ns s) a) to from
     where
-      to : sameStation s (nodeAt ns a .station) ≡ true → eqb (placeIn ns s) a ≡ true
-      to e = eq-eqb (placeIn ns s) a (ap (placeIn ns) (station-eq s (nodeAt ns a .station) e) ∙ own-place a h)
+      to : sameStation s (nodeAt ns a .station) ≡ true → eqb (stationPlace ns s) a ≡ true
+      to e = eq-eqb (stationPlace ns s) a (ap (stationPlace ns) (station-eq s (nodeAt ns a .station) e) ∙ own-place a h)
 
-      from : eqb (placeIn ns s) a ≡ true → sameStation s (nodeAt ns a .station) ≡ true
-      from e = station-sym s (nodeAt ns a .station) ∙ stands-there s a (eqb-true (placeIn ns s) a e) h
+      from : eqb (stationPlace ns s) a ≡ true → sameStation s (nodeAt ns a .station) ≡ true
+      from e = station-sym s (nodeAt ns a .station) ∙ stands-there s a (eqb-true (stationPlace ns s) a e) h

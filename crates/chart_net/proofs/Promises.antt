@@ -12,13 +12,14 @@ use Rattle.chart.specs.declared.Link.{Link}
 use Rattle.chart.specs.declared.Nodes.{Nodes}
 use Rattle.chart.specs.declared.Links.{Links}
 use Rattle.chart.specs.Values.{nodeAt, linkAt, standsAt}
-use Rattle.routes.specs.All.{allRoutes}
-use Rattle.routes.proofs.Promises.{off-links, twin-links}
-use Rattle.chart_net.specs.Net.{placeIn, crossed, across, placed, farIn, chartNet, start, routesOf}
-use Rattle.chart_net.specs.Promises.{RoutesKept, AcceptedEnds, ByStation, OffLink, TwinLink}
+use Rattle.route.specs.All.{allRoutes}
+use Rattle.route.proofs.Promises.{off-links, twin-links}
+use Rattle.chart_net.proofs.Places.{crossed}
+use Rattle.chart_net.specs.Net.{stationPlace, across, placed, farEnd, chartNet, start, routesOf}
+use Rattle.chart_net.specs.Promises.{SameRoutes, AcceptedEnds, ByStation, OffLink, TwinLink}
 use Rattle.chart_net.proofs.Kept as kept
 
-pub routes-kept : RoutesKept
+pub routes-kept : SameRoutes
 routes-kept c ok = kept.routes-kept c ok
 
 pub accepted-ends : AcceptedEnds
@@ -27,8 +28,8 @@ accepted-ends c ok = record { sound = kept.chart-sound c ok; begins = kept.start
 -- ---- labels are not looked at
 
 module _ (ns ms : Nodes) (count : ns .count ≡ ms .count) (stations : (i : ℕ) → nodeAt ns i .station ≡ nodeAt ms i .station) where
-  place-same : (s : Station) → placeIn ns s ≡ placeIn ms s
-  unfolding placeIn standsAt
+  place-same : (s : Station) → stationPlace ns s ≡ stationPlace ms s
+  unfolding stationPlace standsAt
   place-same s =
       let p : standsAt ns s ≡ standsAt ms s = fun-ext (λ i. ap (λ (t : Station). sameStation t s) (stations i)) in
       λ j. firstBelow (p j) (count j)
@@ -37,8 +38,8 @@ module _ (ns ms : Nodes) (count : ns .count ≡ ms .count) (stations : (i : ℕ)
   placed-same none = refl
   placed-same (some s) = ap some (place-same s)
 
-  far-same : (ls : Links) → farIn ns ls ≡ farIn ms ls
-  unfolding farIn
+  far-same : (ls : Links) → farEnd ns ls ≡ farEnd ms ls
+  unfolding farEnd
   far-same ls =
       fun-ext (λ i. fun-ext (λ a.
       ap (λ (o : Option ℕ). cond (ltb i (ls .count)) o none)
@@ -47,11 +48,11 @@ module _ (ns ms : Nodes) (count : ns .count ≡ ms .count) (stations : (i : ℕ)
 pub by-station : ByStation
 unfolding routesOf chartNet start
 by-station c d e =
-    let place : (s t : Station) → s ≡ t → placeIn (c .nodes) s ≡ placeIn (d .nodes) t =
-    λ s t q. place-same (c .nodes) (d .nodes) (e .count) (e .stations) s ∙ ap (placeIn (d .nodes)) q
+    let place : (s t : Station) → s ≡ t → stationPlace (c .nodes) s ≡ stationPlace (d .nodes) t =
+    λ s t q. place-same (c .nodes) (d .nodes) (e .count) (e .stations) s ∙ ap (stationPlace (d .nodes)) q
     in
-    let far : farIn (c .nodes) (c .links) ≡ farIn (d .nodes) (d .links) =
-    far-same (c .nodes) (d .nodes) (e .count) (e .stations) (c .links) ∙ ap (farIn (d .nodes)) (e .links)
+    let far : farEnd (c .nodes) (c .links) ≡ farEnd (d .nodes) (d .links) =
+    far-same (c .nodes) (d .nodes) (e .count) (e .stations) (c .links) ∙ ap (farEnd (d .nodes)) (e .links)
     in
     let goal = place (c .to) (d .to) (e .to) in
     let begin = place (c .from) (d .from) (e .from) in
@@ -61,8 +62,8 @@ by-station c d e =
 
 -- ---- off links and twin links
 
-off-far : (ns : Nodes) (ls : Links) (i : ℕ) → linkAt ls i .on ≡ false → (n : ℕ) → farIn ns ls i n ≡ none
-unfolding farIn crossed
+off-far : (ns : Nodes) (ls : Links) (i : ℕ) → linkAt ls i .on ≡ false → (n : ℕ) → farEnd ns ls i n ≡ none
+unfolding farEnd
 off-far ns ls i off n = go (ltb i (ls .count))
   where
     go : (b : Bool) → cond b (placed ns (across (linkAt ls i) (nodeAt ns n .station))) none ≡ none
@@ -74,7 +75,6 @@ unfolding chartNet
 off-link c i off r p m = off-links (chartNet c) (start c) i (off-far (c .nodes) (c .links) i off) r p m
 
 twin-across : (l k : Link) (s : Station) → stationOf (l .a) ≡ stationOf (k .a) → stationOf (l .b) ≡ stationOf (k .b) → l .on ≡ k .on → across l s ≡ across k s
-unfolding crossed
 twin-across l k s ea eb eo =
     ap (λ (o : Bool). crossed o (sameStation (stationOf (l .a)) s) (sameStation (stationOf (l .b)) s) l) eo
     ∙ go (k .on) (sameStation (stationOf (l .a)) s) (sameStation (stationOf (l .b)) s)
@@ -87,7 +87,7 @@ twin-across l k s ea eb eo =
     go true false false = refl
 
 pub twin-link : TwinLink
-unfolding chartNet farIn
+unfolding chartNet farEnd
 twin-link c i j t hi hj ne p r q =
     let far : (n : ℕ) → chartNet c .far i n ≡ chartNet c .far j n =
     λ n.

@@ -1,3 +1,3 @@
 pub mod Net
-pub mod Arrays
+pub mod Contracts
 pub mod Promises

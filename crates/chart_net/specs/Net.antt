@@ -1,6 +1,6 @@
 -- The net of a chart: what its routes go over (document 01, "Routes and their order"). Nodes and links go by their places.
 use Prim.Native.Nat.{ℕ}
-use mathlib.Core.Bool.{Bool, true, false, cond}
+use mathlib.Core.Bool.{cond}
 use mathlib.Core.Option.{Option, none, some}
 use mathlib.Core.List.{List}
 use lib.Dec.{ltb}
@@ -12,32 +12,30 @@ use Rattle.chart.specs.declared.Nodes.{Nodes}
 use Rattle.chart.specs.declared.Links.{Links}
 use Rattle.chart.specs.declared.Chart.{Chart}
 use Rattle.chart.specs.Values.{nodeAt, linkAt, standsAt}
-use Rattle.routes.specs.Route.{Net}
-use Rattle.routes.specs.All.{allRoutes}
+use Rattle.route.specs.Route.{Net}
+use Rattle.route.specs.All.{allRoutes}
 
 -- the place of the node at this station: its brigade and node number are compared, its label is not looked at
-unfoldable pub placeIn : Nodes → Station → ℕ
-placeIn ns s = firstBelow (standsAt ns s) (ns .count)
+unfoldable pub stationPlace : Nodes → Station → ℕ
+stationPlace ns s = firstBelow (standsAt ns s) (ns .count)
 
--- from one end of a link to the other, if it is on; the tests say at which end one stands
-unfoldable pub crossed : Bool → Bool → Bool → Link → Option Station
-crossed false first second l = none
-crossed true true second l = some (stationOf (l .b))
-crossed true false true l = some (stationOf (l .a))
-crossed true false false l = none
-
--- the far end of a link for one who stands at a station: a link is passed either way
+-- the far end of a link for one who stands at a station: a link that is on is passed either way
 abbrev pub across : Link → Station → Option Station
-across l s = crossed (l .on) (sameStation (stationOf (l .a)) s) (sameStation (stationOf (l .b)) s) l
+across l s =
+    cond (l .on)
+    (cond (sameStation (stationOf (l .a)) s) (some (stationOf (l .b)))
+    (cond (sameStation (stationOf (l .b)) s) (some (stationOf (l .a)))
+    none))
+    none
 
 -- its place
 abbrev pub placed : Nodes → Option Station → Option ℕ
 placed ns none = none
-placed ns (some s) = some (placeIn ns s)
+placed ns (some s) = some (stationPlace ns s)
 
 -- the far end of link i for one who stands at the node at place a, if there is such a link
-unfoldable pub farIn : Nodes → Links → ℕ → ℕ → Option ℕ
-farIn ns ls i a = cond (ltb i (ls .count)) (placed ns (across (linkAt ls i) (nodeAt ns a .station))) none
+unfoldable pub farEnd : Nodes → Links → ℕ → ℕ → Option ℕ
+farEnd ns ls i a = cond (ltb i (ls .count)) (placed ns (across (linkAt ls i) (nodeAt ns a .station))) none
 
 -- the net of the chart
 unfoldable pub chartNet : Chart → Net
@@ -45,13 +43,13 @@ chartNet c =
     record {
       nodes = c .nodes .count;
       links = c .links .count;
-      far = farIn (c .nodes) (c .links);
-      goal = placeIn (c .nodes) (c .to);
+      far = farEnd (c .nodes) (c .links);
+      goal = stationPlace (c .nodes) (c .to);
     }
 
 -- the place that the question begins at
 unfoldable pub start : Chart → ℕ
-start c = placeIn (c .nodes) (c .from)
+start c = stationPlace (c .nodes) (c .from)
 
 -- all routes that the chart's question asks for, in order
 unfoldable pub routesOf : Chart → List (List ℕ)

@@ -7,14 +7,14 @@ use Rattle.address.specs.Address.{stationOf}
 use Rattle.chart.specs.declared.Chart.{Chart}
 use Rattle.chart.specs.Values.{nodeAt, linkAt}
 use Rattle.chart_write.specs.Promises.{Accepted}
-use Rattle.routes.specs.Route.{Sound, RouteFrom}
-use Rattle.routes.specs.Promises.{TwoRoutes}
+use Rattle.route.specs.Route.{Sound, RouteFrom}
+use Rattle.route.specs.Promises.{TwoRoutes}
 use Rattle.chart_net.specs.Net.{chartNet, start, routesOf}
-use Rattle.chart_net.specs.Arrays.{routesKept}
+use Rattle.chart_net.specs.Contracts.{arrayRoutes}
 
 -- the arrays that the trace keeps of an accepted chart have the chart's routes
-abbrev pub RoutesKept : Type 0
-RoutesKept = (c : Chart) → Accepted c → routesKept c ≡ routesOf c
+abbrev pub SameRoutes : Type 0
+SameRoutes = (c : Chart) → Accepted c → arrayRoutes c ≡ routesOf c
 
 -- in an accepted chart every far end is a node, and the question begins at one
 pub record EndsAtNodes (c : Chart) : Type 0 where

@@ -9,16 +9,17 @@ use chart::MOST_NODES;
 use chart::Nodes;
 ghost use mathlib.Core.Path.{_≡_};
 ghost use Prim.Native.Nat.{_≤_};
-ghost use Rattle.chart_keys.specs.Keys.{KeysOf};
-ghost use Rattle.chart_net.specs.Net.{placeIn};
-ghost use Rattle.chart_net.specs.Arrays.{placeFor, endPlaces, wayOf, endsFor, waysFor};
+ghost use Rattle.chart_refuse.specs.Contracts.{KeysOf};
+ghost use Rattle.chart_net.specs.Net.{stationPlace};
+ghost use Rattle.chart_net.specs.Contracts.{stationPlaceFor, endPlaces, passageOf, endsFor, passagesFor};
+ghost use Rattle.chart.specs.Values.{mostNodes};
 
 // The place of the node at a station among at most 16 nodes with these keys, or their count where there is none.
 fn find_node(nodes: Nodes, keys: &[u32; 16], s: Station) -> u8
-    requires { ⌜ (nodes .count ≤ 16) × KeysOf nodes (now keys) ⌝ }
-    ensures { λ r. ⌜ r ≡ placeIn nodes s ⌝ }
+    requires { ⌜ (nodes .count ≤ mostNodes) × KeysOf nodes (now keys) ⌝ }
+    ensures { λ r. ⌜ r ≡ stationPlace nodes s ⌝ }
 {
-    let k = chart_keys::station_key(s);
+    let k = chart_refuse::station_key(s);
     let mut i: usize = 0;
     while i < nodes.count as usize {
         if keys[i] == k {
@@ -32,7 +33,7 @@ fn find_node(nodes: Nodes, keys: &[u32; 16], s: Station) -> u8
 // The same of any nodes; 16 where they are too many.
 fn place_by(nodes: Nodes, keys: &[u32; 16], s: Station) -> u8
     requires { ⌜ KeysOf nodes (now keys) ⌝ }
-    ensures { λ r. ⌜ r ≡ placeFor nodes s ⌝ }
+    ensures { λ r. ⌜ r ≡ stationPlaceFor nodes s ⌝ }
 {
     if MOST_NODES < nodes.count {
         return MOST_NODES;
@@ -41,10 +42,10 @@ fn place_by(nodes: Nodes, keys: &[u32; 16], s: Station) -> u8
 }
 
 // The place of the node at a station, or the count of the nodes where there is none; 16 where the nodes are too many.
-pub fn place_of(nodes: Nodes, s: Station) -> u8
-    ensures { λ r. ⌜ r ≡ placeFor nodes s ⌝ }
+pub fn place_for(nodes: Nodes, s: Station) -> u8
+    ensures { λ r. ⌜ r ≡ stationPlaceFor nodes s ⌝ }
 {
-    let keys = chart_keys::station_keys(nodes);
+    let keys = chart_refuse::station_keys(nodes);
     place_by(nodes, &keys, s)
 }
 
@@ -61,14 +62,14 @@ fn link_ends(nodes: Nodes, keys: &[u32; 16], l: Link) -> [u8; 2]
 }
 
 // The two ends of each link, in 48 places, the unused ones zero; all of them where the links are too many.
-pub fn ends_of(nodes: Nodes, links: Links) -> [[u8; 2]; 48]
+pub fn ends_for(nodes: Nodes, links: Links) -> [[u8; 2]; 48]
     ensures { λ r. ⌜ r ≡ endsFor nodes links ⌝ }
 {
     let mut ends = [[0u8; 2]; 48];
     if MOST_LINKS < links.count {
         return ends;
     }
-    let keys = chart_keys::station_keys(nodes);
+    let keys = chart_refuse::station_keys(nodes);
     let n = links.count as usize;
     let mut i: usize = 0;
     while i < n {
@@ -81,15 +82,15 @@ pub fn ends_of(nodes: Nodes, links: Links) -> [[u8; 2]; 48]
 }
 
 // The way that a link is passed: 1 both ways, 0 not at all.
-fn way_of(l: Link) -> u8
-    ensures { λ r. ⌜ r ≡ wayOf l ⌝ }
+fn passage_of(l: Link) -> u8
+    ensures { λ r. ⌜ r ≡ passageOf l ⌝ }
 {
     if l.on { 1 } else { 0 }
 }
 
 // The way that each link is passed, in 48 places, the unused ones zero; all of them where the links are too many.
-pub fn ways_of(links: Links) -> [u8; 48]
-    ensures { λ r. ⌜ r ≡ waysFor links ⌝ }
+pub fn passages_for(links: Links) -> [u8; 48]
+    ensures { λ r. ⌜ r ≡ passagesFor links ⌝ }
 {
     let mut ways = [0u8; 48];
     if MOST_LINKS < links.count {
@@ -99,7 +100,7 @@ pub fn ways_of(links: Links) -> [u8; 48]
     let mut i: usize = 0;
     while i < n {
         let l = links.items[i];
-        let w = way_of(l);
+        let w = passage_of(l);
         ways[i] = w;
         i += 1;
     }

@@ -10,9 +10,9 @@ use lib.ListN.{length, getD, take, drop, length-append, length-take, length-drop
 use lib.Seq.{getD-append-add, getD-append-seam, drop-append-add, take-append-seam, take-add, drop-cons, drop-drop, getD-drop, getD-take, length-take-le}
 use lib.Dec.{ltb}
 use borrow.Author.Tests.{ltb-false, ltb-true}
-use Rattle.lists.specs.Bytes.{Bytes, wordAt, wordBytes}
+use Rattle.buffer.specs.Bytes.{Bytes, wordAt, wordBytes}
 use Rattle.chart_read.specs.Fields.{tagged, tagAt, bodyAt, pastField}
-use Rattle.chart_read.specs.Reading.{SoFar, withBody, Refusing, bodyNumber, fieldNumber}
+use Rattle.chart_read.specs.Reading.{SoFar, withBody, Refusing, bodyRefusal, fieldRefusal}
 use Rattle.chart_read.proofs.Laws.{field-whole}
 
 -- ---- where a field was written
@@ -44,9 +44,9 @@ module _ (pre : List ℕ) (tag : ℕ) (body post : List ℕ) where
   length-there = omega (arith, length-append pre (tagged tag body ++ post), length-append body post)
 
   -- its number is that of its body by its tag, and it adds what the body says
-  pub number-there : (r : Refusing) → fieldNumber r there (length pre) ≡ bodyNumber r tag body
-  number-there r =
-      sym (field-whole r there (length pre) (bodyNumber r tag body) (omega (arith, word-there, length-there)) (sym (ap₂ (bodyNumber r) tag-there body-there)))
+  pub refusal-there : (r : Refusing) → fieldRefusal r there (length pre) ≡ bodyRefusal r tag body
+  refusal-there r =
+      sym (field-whole r there (length pre) (bodyRefusal r tag body) (omega (arith, word-there, length-there)) (sym (ap₂ (bodyRefusal r) tag-there body-there)))
 
   pub held-there : (s : SoFar) → withBody s (tagAt there (length pre)) (bodyAt there (length pre)) ≡ withBody s tag body
   held-there s = ap₂ (withBody s) tag-there body-there

@@ -7,20 +7,20 @@ use native.Mathlib.Omega.{arith}
 use lib.ListN.{length, getD, set, replicate, length-set}
 use lib.Dec.{eqb}
 use borrow.Author.Tests.{eq-eqb, ne-eqb}
-use Rattle.lists.specs.Bytes.{Bytes}
+use Rattle.buffer.specs.Bytes.{Bytes}
 use Rattle.address.specs.declared.Station.{Station}
-use Rattle.address.specs.Wide.{stationIn}
+use Rattle.address_bytes.specs.Wide.{stationIn}
 use Rattle.chart.specs.declared.ChartNode.{ChartNode}
 use Rattle.chart.specs.declared.Link.{Link}
 use Rattle.chart.specs.declared.Chart.{Chart}
 use Rattle.chart.specs.Values.{noNode, noLink, noChart}
-use Rattle.chart.specs.Numbers.{nodeNumber, linkNumber}
-use Rattle.chart_keys.specs.Keys.{StationKeyed, EndKeyed, KeyedNodes, KeyedLinks}
+use Rattle.chart.specs.Refusals.{nodeRefusal, linkRefusal}
+use Rattle.chart_refuse.specs.Contracts.{StationKeyed, EndKeyed, KeyedNodes, KeyedLinks}
 use Rattle.chart.proofs.Laws.{node-passed, link-passed}
-use Rattle.chart_keys.proofs.ByKeys.{keyed-node, keyed-link}
+use Rattle.chart_refuse.proofs.ByKeys.{keyed-node, keyed-link}
 use Rattle.chart_read.specs.Fields.{tagAt, bodyAt, pastField, nodeIn, linkIn}
-use Rattle.chart_read.specs.Reading.{SoFar, nothing, withNode, withLink, withQuestion, withBody, Refusing, nodeLate, refusing, bodyNumber, fieldNumber, refusedAt, chartReadOf}
-use Rattle.chart_read.specs.ByKeys.{refusingBy}
+use Rattle.chart_read.specs.Reading.{SoFar, nothing, withNode, withLink, withQuestion, withBody, Refusing, nodeLate, refusing, bodyRefusal, fieldRefusal, refusedAt, readChartOf}
+use Rattle.chart_read.specs.Contracts.{refusingBy}
 use Rattle.chart_read.proofs.Walking.{Reaches, reach-start, reach-next, reach-refused, reach-end, end-unasked, end-asked}
 use Rattle.chart_read.proofs.Laws.{with-node, with-link, with-question, node-zero, link-zero, node-bounds, link-bounds, whole, body-zero}
 use Rattle.chart_read.proofs.Keyed.{field-same}
@@ -32,8 +32,8 @@ pub record Turn : Type 0 where
   pub from : Station
   pub to : Station
   pub keys : List ℕ
-  pub near : List ℕ
-  pub far : List ℕ
+  pub akeys : List ℕ
+  pub bkeys : List ℕ
   pub n : ℕ
   pub m : ℕ
   pub asked : Bool
@@ -49,14 +49,14 @@ soFarOf t = record { chart = chartOf t; asked = t .asked }
 pub record Holding (bytes : List ℕ) (t : Turn) : Type 0 where
   pub reaches : Reaches bytes (soFarOf t) (t .at)
   pub nodes : KeyedNodes (chartOf t .nodes) (t .keys)
-  pub links : KeyedLinks (chartOf t .links) (t .near) (t .far)
+  pub links : KeyedLinks (chartOf t .links) (t .akeys) (t .bkeys)
   pub few-nodes : t .n ≤ 16
   pub few-links : t .m ≤ 48
   pub long-nodes : length (t .nodes) ≡ 16
   pub long-links : length (t .links) ≡ 48
   pub long-keys : length (t .keys) ≡ 16
-  pub long-near : length (t .near) ≡ 48
-  pub long-far : length (t .far) ≡ 48
+  pub long-akeys : length (t .akeys) ≡ 48
+  pub long-bkeys : length (t .bkeys) ≡ 48
 
 -- before the first field
 abbrev pub firstTurn : ChartNode → Link → Turn
@@ -67,8 +67,8 @@ firstTurn n l =
       from = n .station;
       to = n .station;
       keys = replicate 16 0;
-      near = replicate 48 0;
-      far = replicate 48 0;
+      akeys = replicate 48 0;
+      bkeys = replicate 48 0;
       n = 0;
       m = 0;
       asked = false;
@@ -87,16 +87,16 @@ nothing-yet bytes =
       long-nodes = refl;
       long-links = refl;
       long-keys = refl;
-      long-near = refl;
-      long-far = refl;
+      long-akeys = refl;
+      long-bkeys = refl;
     }
 
 pub holding-start : (bytes : List ℕ) (n : ChartNode) (l : Link) → n ≡ noNode → l ≡ noLink → Holding bytes (firstTurn n l)
 holding-start bytes n l e f =
     subst (λ (x : ChartNode). Holding bytes (firstTurn x l)) (sym e) (subst (λ (y : Link). Holding bytes (firstTurn noNode y)) (sym f) (nothing-yet bytes))
 
-abbrev pub numberOf : List ℕ → Turn → ℕ
-numberOf bytes t = fieldNumber (refusingBy (t .asked) (t .keys) (t .n) (t .near) (t .far) (t .m)) bytes (t .at)
+abbrev pub refusalOf : List ℕ → Turn → ℕ
+refusalOf bytes t = fieldRefusal (refusingBy (t .asked) (t .keys) (t .n) (t .akeys) (t .bkeys) (t .m)) bytes (t .at)
 
 -- at a field of the input
 pub record Field (bytes : List ℕ) (t : Turn) : Type 0 where
@@ -107,7 +107,7 @@ pub record Field (bytes : List ℕ) (t : Turn) : Type 0 where
 -- at a field that is taken: its number is 0, and its body and the place past it are at hand
 pub record Taken (bytes : List ℕ) (t : Turn) (b : List ℕ) (next : ℕ) : Type 0 where
   pub field : Field bytes t
-  pub zero : numberOf bytes t ≡ 0
+  pub zero : refusalOf bytes t ≡ 0
   pub body : b ≡ bodyAt bytes (t .at)
   pub past : next ≡ pastField bytes (t .at)
 
@@ -115,16 +115,16 @@ module _ {bytes : List ℕ} {t : Turn} (f : Field bytes t) where
   abbrev r : Refusing
   r = refusing (soFarOf t)
 
-  number-same : numberOf bytes t ≡ fieldNumber r bytes (t .at)
-  number-same = field-same (soFarOf t) (t .keys) (t .near) (t .far) (f .held .nodes) (f .held .links) bytes (f .all-bytes) (t .at)
+  refusal-same : refusalOf bytes t ≡ fieldRefusal r bytes (t .at)
+  refusal-same = field-same (soFarOf t) (t .keys) (t .akeys) (t .bkeys) (f .held .nodes) (f .held .links) bytes (f .all-bytes) (t .at)
 
-  pub refused-field : {k : ℕ} → k ≡ numberOf bytes t → (k ≡ 0 → ⊥) → refusedAt k (t .at) ≡ chartReadOf bytes
+  pub refused-field : {k : ℕ} → k ≡ refusalOf bytes t → (k ≡ 0 → ⊥) → refusedAt k (t .at) ≡ readChartOf bytes
   refused-field e z =
-      ap (λ (x : ℕ). refusedAt x (t .at)) (e ∙ number-same)
-      ∙ reach-refused bytes (soFarOf t) (t .at) (f .begins) (f .held .reaches) (λ q. z (e ∙ number-same ∙ q))
+      ap (λ (x : ℕ). refusedAt x (t .at)) (e ∙ refusal-same)
+      ∙ reach-refused bytes (soFarOf t) (t .at) (f .begins) (f .held .reaches) (λ q. z (e ∙ refusal-same ∙ q))
 
-  pub whole-field : numberOf bytes t ≡ 0 → pastField bytes (t .at) ≤ length bytes
-  whole-field e = whole r bytes (t .at) (sym number-same ∙ e)
+  pub whole-field : refusalOf bytes t ≡ 0 → pastField bytes (t .at) ≤ length bytes
+  whole-field e = whole r bytes (t .at) (sym refusal-same ∙ e)
 
 module _ {bytes : List ℕ} {t : Turn} {b : List ℕ} {next : ℕ} (f : Taken bytes t b next) where
   abbrev h : Holding bytes t
@@ -133,21 +133,21 @@ module _ {bytes : List ℕ} {t : Turn} {b : List ℕ} {next : ℕ} (f : Taken by
   abbrev tag : ℕ
   tag = tagAt bytes (t .at)
 
-  no-number : fieldNumber (r (f .field)) bytes (t .at) ≡ 0
-  no-number = sym (number-same (f .field)) ∙ f .zero
+  no-refusal : fieldRefusal (r (f .field)) bytes (t .at) ≡ 0
+  no-refusal = sym (refusal-same (f .field)) ∙ f .zero
 
-  body-none : bodyNumber (r (f .field)) tag b ≡ 0
-  body-none = ap (bodyNumber (r (f .field)) tag) (f .body) ∙ body-zero (r (f .field)) bytes (t .at) no-number
+  body-none : bodyRefusal (r (f .field)) tag b ≡ 0
+  body-none = ap (bodyRefusal (r (f .field)) tag) (f .body) ∙ body-zero (r (f .field)) bytes (t .at) no-refusal
 
   -- the walk goes on past the field
   reached : Reaches bytes (withBody (soFarOf t) tag b) next
   reached =
       subst (λ (x : ℕ). Reaches bytes (withBody (soFarOf t) tag b) x) (sym (f .past))
       (subst (λ (x : List ℕ). Reaches bytes (withBody (soFarOf t) tag x) (pastField bytes (t .at))) (sym (f .body))
-      (reach-next bytes (soFarOf t) (t .at) (f .field .begins) (h .reaches) no-number))
+      (reach-next bytes (soFarOf t) (t .at) (f .field .begins) (h .reaches) no-refusal))
 
   module _ (g : tag ≡ 1) where
-    node-facts : (3 ≤ length b) × (length b ≤ 27) × (nodeNumber (nodeLate (soFarOf t)) (chartOf t .nodes) (nodeIn b) ≡ 0)
+    node-facts : (3 ≤ length b) × (length b ≤ 27) × (nodeRefusal (nodeLate (soFarOf t)) (chartOf t .nodes) (nodeIn b) ≡ 0)
     unfolding refusing
     node-facts = node-bounds (r (f .field) .node) b (node-zero (r (f .field)) tag b body-none (eq-eqb _ _ g))
 
@@ -165,8 +165,8 @@ module _ {bytes : List ℕ} {t : Turn} {b : List ℕ} {next : ℕ} (f : Taken by
           from = t .from;
           to = t .to;
           keys = set (t .keys) (t .n) k;
-          near = t .near;
-          far = t .far;
+          akeys = t .akeys;
+          bkeys = t .bkeys;
           n = t .n + 1;
           m = t .m;
           asked = t .asked;
@@ -184,15 +184,15 @@ module _ {bytes : List ℕ} {t : Turn} {b : List ℕ} {next : ℕ} (f : Taken by
           long-nodes = length-set (t .nodes) (t .n) node ∙ h .long-nodes;
           long-links = h .long-links;
           long-keys = length-set (t .keys) (t .n) k ∙ h .long-keys;
-          long-near = h .long-near;
-          long-far = h .long-far;
+          long-akeys = h .long-akeys;
+          long-bkeys = h .long-bkeys;
         }
 
   module _ (g : tag ≡ 2) where
     no-node-tag : eqb tag 1 ≡ false
     no-node-tag = ap (λ (x : ℕ). eqb x 1) g
 
-    link-facts : (length b ≡ 9) × (getD b 8 0 ≤ 1) × (linkNumber (t .asked) (chartOf t .nodes) (chartOf t .links) (linkIn b) ≡ 0)
+    link-facts : (length b ≡ 9) × (getD b 8 0 ≤ 1) × (linkRefusal (t .asked) (chartOf t .nodes) (chartOf t .links) (linkIn b) ≡ 0)
     unfolding refusing
     link-facts = link-bounds (r (f .field) .link) b (link-zero (r (f .field)) tag b body-none no-node-tag (eq-eqb _ _ g))
 
@@ -210,8 +210,8 @@ module _ {bytes : List ℕ} {t : Turn} {b : List ℕ} {next : ℕ} (f : Taken by
           from = t .from;
           to = t .to;
           keys = t .keys;
-          near = set (t .near) (t .m) j;
-          far = set (t .far) (t .m) k;
+          akeys = set (t .akeys) (t .m) j;
+          bkeys = set (t .bkeys) (t .m) k;
           n = t .n;
           m = t .m + 1;
           asked = t .asked;
@@ -223,14 +223,14 @@ module _ {bytes : List ℕ} {t : Turn} {b : List ℕ} {next : ℕ} (f : Taken by
           reaches = subst (λ (x : SoFar). Reaches bytes x next)
               (with-link (soFarOf t) tag b no-node-tag (eq-eqb _ _ g) ∙ ap (withLink (soFarOf t)) (sym q)) reached;
           nodes = h .nodes;
-          links = keyed-link (chartOf t .links) (t .near) (t .far) (h .links) link j k sa sb (omega (arith, link-room, h .long-links)) (omega (arith, link-room, h .long-near)) (omega (arith, link-room, h .long-far));
+          links = keyed-link (chartOf t .links) (t .akeys) (t .bkeys) (h .links) link j k sa sb (omega (arith, link-room, h .long-links)) (omega (arith, link-room, h .long-akeys)) (omega (arith, link-room, h .long-bkeys));
           few-nodes = h .few-nodes;
           few-links = omega (arith, link-room);
           long-nodes = h .long-nodes;
           long-links = length-set (t .links) (t .m) link ∙ h .long-links;
           long-keys = h .long-keys;
-          long-near = length-set (t .near) (t .m) j ∙ h .long-near;
-          long-far = length-set (t .far) (t .m) k ∙ h .long-far;
+          long-akeys = length-set (t .akeys) (t .m) j ∙ h .long-akeys;
+          long-bkeys = length-set (t .bkeys) (t .m) k ∙ h .long-bkeys;
         }
 
   -- the question
@@ -241,8 +241,8 @@ module _ {bytes : List ℕ} {t : Turn} {b : List ℕ} {next : ℕ} (f : Taken by
         from = from;
         to = to;
         keys = t .keys;
-        near = t .near;
-        far = t .far;
+        akeys = t .akeys;
+        bkeys = t .bkeys;
         n = t .n;
         m = t .m;
         asked = true;
@@ -260,14 +260,14 @@ module _ {bytes : List ℕ} {t : Turn} {b : List ℕ} {next : ℕ} (f : Taken by
         long-nodes = h .long-nodes;
         long-links = h .long-links;
         long-keys = h .long-keys;
-        long-near = h .long-near;
-        long-far = h .long-far;
+        long-akeys = h .long-akeys;
+        long-bkeys = h .long-bkeys;
       }
 
 -- the input's end
 module _ (bytes : List ℕ) (t : Turn) (h : Holding bytes t) (l : length bytes ≤ t .at) where
-  pub ends-unasked : t .asked ≡ false → refusedAt 31 (length bytes) ≡ chartReadOf bytes
+  pub ends-unasked : t .asked ≡ false → refusedAt 31 (length bytes) ≡ readChartOf bytes
   ends-unasked e = end-unasked (soFarOf t) (length bytes) e ∙ reach-end bytes (soFarOf t) (t .at) l (h .reaches)
 
-  pub ends-asked : t .asked ≡ true → record { number = 0; place = 0; chart = chartOf t } ≡ chartReadOf bytes
+  pub ends-asked : t .asked ≡ true → record { refusal = 0; place = 0; chart = chartOf t } ≡ readChartOf bytes
   ends-asked e = end-asked (soFarOf t) (length bytes) e ∙ reach-end bytes (soFarOf t) (t .at) l (h .reaches)

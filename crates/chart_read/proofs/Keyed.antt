@@ -6,14 +6,14 @@ use mathlib.Core.Bool.{not, cond}
 use native.Mathlib.Omega.{arith}
 use lib.ListN.{length, getD}
 use lib.Dec.{ltb, eqb}
-use Rattle.lists.specs.Bytes.{Bytes, wordAt}
+use Rattle.buffer.specs.Bytes.{Bytes, wordAt}
 use Rattle.lists.specs.Refusals.{refuse}
-use Rattle.address.specs.Wide.{stationIn, addressIn}
-use Rattle.chart_keys.specs.Keys.{endKey, EndKeyed, KeyedNodes, KeyedLinks}
-use Rattle.chart_keys.proofs.ByKeys.{node-keyed, link-keyed, question-keyed}
+use Rattle.address_bytes.specs.Wide.{stationIn, addressIn}
+use Rattle.chart_refuse.specs.Contracts.{endKey, EndKeyed, KeyedNodes, KeyedLinks}
+use Rattle.chart_refuse.proofs.ByKeys.{node-keyed, link-keyed, question-keyed}
 use Rattle.chart_read.specs.Fields.{tagAt, bodyAt, cutShort, nodeIn, linkIn}
-use Rattle.chart_read.specs.Reading.{SoFar, Refusing, nodeLate, refusing, nodeBodyNumber, linkBodyNumber, questionBodyNumber, bodyNumber, fieldNumber}
-use Rattle.chart_read.specs.ByKeys.{refusingBy}
+use Rattle.chart_read.specs.Reading.{SoFar, Refusing, nodeLate, refusing, nodeBodyRefusal, linkBodyRefusal, questionBodyRefusal, bodyRefusal, fieldRefusal}
+use Rattle.chart_read.specs.Contracts.{refusingBy}
 use Rattle.chart_read.proofs.Fields.{bytes-body}
 
 -- a two-byte number is below 65,536
@@ -28,31 +28,31 @@ end-fits b h at =
     let p = h (at + 3) in
     record { key = refl; node = word-fits b h (at + 1); port = omega arith }
 
-module _ (s : SoFar) (keys near far : List ℕ) (hn : KeyedNodes (s .chart .nodes) keys) (hl : KeyedLinks (s .chart .links) near far) where
+module _ (s : SoFar) (keys akeys bkeys : List ℕ) (hn : KeyedNodes (s .chart .nodes) keys) (hl : KeyedLinks (s .chart .links) akeys bkeys) where
   abbrev by : Refusing
-  by = refusingBy (s .asked) keys (s .chart .nodes .count) near far (s .chart .links .count)
+  by = refusingBy (s .asked) keys (s .chart .nodes .count) akeys bkeys (s .chart .links .count)
 
-  node-same : (b : List ℕ) → Bytes b → nodeBodyNumber (by .node) b ≡ nodeBodyNumber (refusing s .node) b
-  unfolding refusingBy refusing nodeBodyNumber nodeLate nodeIn
+  node-same : (b : List ℕ) → Bytes b → nodeBodyRefusal (by .node) b ≡ nodeBodyRefusal (refusing s .node) b
+  unfolding refusingBy refusing nodeBodyRefusal nodeLate nodeIn
   node-same b h =
       ap (λ (k : ℕ). refuse 23 (ltb (length b) 3) (refuse 23 (ltb 27 (length b)) k)) (node-keyed (s .chart .nodes) keys hn (nodeLate s) (nodeIn b) (word-fits b h 1))
 
-  link-same : (b : List ℕ) → Bytes b → linkBodyNumber (by .link) b ≡ linkBodyNumber (refusing s .link) b
-  unfolding refusingBy refusing linkBodyNumber linkIn
+  link-same : (b : List ℕ) → Bytes b → linkBodyRefusal (by .link) b ≡ linkBodyRefusal (refusing s .link) b
+  unfolding refusingBy refusing linkBodyRefusal linkIn
   link-same b h =
       ap (λ (k : ℕ). refuse 23 (not (eqb (length b) 9)) (refuse 24 (ltb 1 (getD b 8 0)) k))
-      (link-keyed (s .chart .nodes) keys hn (s .chart .links) near far hl (s .asked) (linkIn b) _ _ (end-fits b h 0) (end-fits b h 4))
+      (link-keyed (s .chart .nodes) keys hn (s .chart .links) akeys bkeys hl (s .asked) (linkIn b) _ _ (end-fits b h 0) (end-fits b h 4))
 
-  question-same : (b : List ℕ) → Bytes b → questionBodyNumber (by .question) b ≡ questionBodyNumber (refusing s .question) b
-  unfolding refusingBy refusing questionBodyNumber
+  question-same : (b : List ℕ) → Bytes b → questionBodyRefusal (by .question) b ≡ questionBodyRefusal (refusing s .question) b
+  unfolding refusingBy refusing questionBodyRefusal
   question-same b h =
       ap (λ (k : ℕ). refuse 23 (not (eqb (length b) 6)) k)
       (question-keyed (s .chart .nodes) keys hn (s .asked) (stationIn b 0) (stationIn b 3) (word-fits b h 1) (word-fits b h 4))
 
-  body-same : (tag : ℕ) (b : List ℕ) → Bytes b → bodyNumber by tag b ≡ bodyNumber (refusing s) tag b
-  unfolding bodyNumber
+  body-same : (tag : ℕ) (b : List ℕ) → Bytes b → bodyRefusal by tag b ≡ bodyRefusal (refusing s) tag b
+  unfolding bodyRefusal
   body-same tag b h = λ i. cond (eqb tag 1) (node-same b h i) (cond (eqb tag 2) (link-same b h i) (cond (eqb tag 3) (question-same b h i) 22))
 
-  pub field-same : (bytes : List ℕ) → Bytes bytes → (at : ℕ) → fieldNumber by bytes at ≡ fieldNumber (refusing s) bytes at
-  unfolding fieldNumber
+  pub field-same : (bytes : List ℕ) → Bytes bytes → (at : ℕ) → fieldRefusal by bytes at ≡ fieldRefusal (refusing s) bytes at
+  unfolding fieldRefusal
   field-same bytes h at = ap (refuse 21 (cutShort bytes at)) (body-same (tagAt bytes at) (bodyAt bytes at) (bytes-body bytes h at))

@@ -7,15 +7,15 @@ use native.Mathlib.Omega.{arith}
 use lib.ListN.{length, getD, take, drop}
 use lib.Dec.{ltb, eqb}
 use borrow.Author.Tests.{lt-ltb, le-ltb, ltb-false, eqb-true, not-false}
-use Rattle.lists.specs.Bytes.{wordAt}
+use Rattle.buffer.specs.Bytes.{wordAt}
 use Rattle.lists.proofs.Refusals.{pass}
 use Rattle.lists.proofs.Chains.{stops, passes}
 use Rattle.address.specs.declared.Station.{Station}
-use Rattle.address.specs.Wide.{stationIn}
+use Rattle.address_bytes.specs.Wide.{stationIn}
 use Rattle.chart.specs.declared.ChartNode.{ChartNode}
 use Rattle.chart.specs.declared.Link.{Link}
 use Rattle.chart_read.specs.Fields.{tagAt, bodyAt, pastField, cutShort, nodeIn, linkIn}
-use Rattle.chart_read.specs.Reading.{SoFar, withNode, withLink, withQuestion, withBody, Refusing, nodeBodyNumber, linkBodyNumber, questionBodyNumber, bodyNumber, fieldNumber}
+use Rattle.chart_read.specs.Reading.{SoFar, withNode, withLink, withQuestion, withBody, Refusing, nodeBodyRefusal, linkBodyRefusal, questionBodyRefusal, bodyRefusal, fieldRefusal}
 
 -- ---- by the tag
 
@@ -25,8 +25,8 @@ tag-first k x e = rw e
 pub tag-later : {A : Type 0} {b : Bool} (k : A) {r x : A} → b ≡ false → r ≡ x → r ≡ cond b k x
 tag-later k e h = rw e h
 
-pub tag-is : (r : Refusing) (b : List ℕ) {k tag t : ℕ} → tag ≡ t → k ≡ bodyNumber r t b → k ≡ bodyNumber r tag b
-tag-is r b e h = h ∙ ap (λ (x : ℕ). bodyNumber r x b) (sym e)
+pub tag-is : (r : Refusing) (b : List ℕ) {k tag t : ℕ} → tag ≡ t → k ≡ bodyRefusal r t b → k ≡ bodyRefusal r tag b
+tag-is r b e h = h ∙ ap (λ (x : ℕ). bodyRefusal r x b) (sym e)
 
 -- what is held after a body of each tag
 module _ (s : SoFar) (tag : ℕ) (b : List ℕ) where
@@ -43,45 +43,45 @@ module _ (s : SoFar) (tag : ℕ) (b : List ℕ) where
   with-question f g = sym (tag-later _ f (tag-later _ g refl))
 
 -- what a body's number of 0 says, by its tag
-module _ (r : Refusing) (tag : ℕ) (b : List ℕ) (e : bodyNumber r tag b ≡ 0) where
-  pub node-zero : eqb tag 1 ≡ true → nodeBodyNumber (r .node) b ≡ 0
-  unfolding bodyNumber
+module _ (r : Refusing) (tag : ℕ) (b : List ℕ) (e : bodyRefusal r tag b ≡ 0) where
+  pub node-zero : eqb tag 1 ≡ true → nodeBodyRefusal (r .node) b ≡ 0
+  unfolding bodyRefusal
   node-zero t = tag-first _ _ t ∙ e
 
-  pub link-zero : eqb tag 1 ≡ false → eqb tag 2 ≡ true → linkBodyNumber (r .link) b ≡ 0
-  unfolding bodyNumber
+  pub link-zero : eqb tag 1 ≡ false → eqb tag 2 ≡ true → linkBodyRefusal (r .link) b ≡ 0
+  unfolding bodyRefusal
   link-zero f t = tag-later _ f (tag-first _ _ t) ∙ e
 
   asks : eqb tag 1 ≡ false → eqb tag 2 ≡ false → (t : Bool) → eqb tag 3 ≡ t → eqb tag 3 ≡ true
-  unfolding bodyNumber
+  unfolding bodyRefusal
   asks f g true t = t
   asks f g false t = absurd (omega (arith, tag-later _ f (tag-later _ g (tag-later _ t refl)) ∙ e))
 
   pub question-tag : eqb tag 1 ≡ false → eqb tag 2 ≡ false → eqb tag 3 ≡ true
   question-tag f g = asks f g (eqb tag 3) refl
 
-  pub question-zero : eqb tag 1 ≡ false → eqb tag 2 ≡ false → questionBodyNumber (r .question) b ≡ 0
-  unfolding bodyNumber
+  pub question-zero : eqb tag 1 ≡ false → eqb tag 2 ≡ false → questionBodyRefusal (r .question) b ≡ 0
+  unfolding bodyRefusal
   question-zero f g = tag-later _ f (tag-later _ g (tag-first _ _ (question-tag f g))) ∙ e
 
 -- and by its length and its value
-pub node-bounds : (number : ChartNode → ℕ) (b : List ℕ) → nodeBodyNumber number b ≡ 0 → (3 ≤ length b) × (length b ≤ 27) × (number (nodeIn b) ≡ 0)
-unfolding nodeBodyNumber
-node-bounds number b e =
+pub node-bounds : (refusal : ChartNode → ℕ) (b : List ℕ) → nodeBodyRefusal refusal b ≡ 0 → (3 ≤ length b) × (length b ≤ 27) × (refusal (nodeIn b) ≡ 0)
+unfolding nodeBodyRefusal
+node-bounds refusal b e =
     let p = pass 22 (ltb (length b) 3) _ e in
     let q = pass 22 (ltb 27 (length b)) _ (p .1) in
     (ltb-false (length b) 3 (p .0), ltb-false 27 (length b) (q .0), q .1)
 
-pub link-bounds : (number : Link → ℕ) (b : List ℕ) → linkBodyNumber number b ≡ 0 → (length b ≡ 9) × (getD b 8 0 ≤ 1) × (number (linkIn b) ≡ 0)
-unfolding linkBodyNumber
-link-bounds number b e =
+pub link-bounds : (refusal : Link → ℕ) (b : List ℕ) → linkBodyRefusal refusal b ≡ 0 → (length b ≡ 9) × (getD b 8 0 ≤ 1) × (refusal (linkIn b) ≡ 0)
+unfolding linkBodyRefusal
+link-bounds refusal b e =
     let p = pass 22 (not (eqb (length b) 9)) _ e in
     let q = pass 23 (ltb 1 (getD b 8 0)) _ (p .1) in
     (eqb-true (length b) 9 (not-false _ (p .0)), ltb-false 1 (getD b 8 0) (q .0), q .1)
 
-pub question-bounds : (number : Station → Station → ℕ) (b : List ℕ) → questionBodyNumber number b ≡ 0 → (length b ≡ 6) × (number (stationIn b 0) (stationIn b 3) ≡ 0)
-unfolding questionBodyNumber
-question-bounds number b e =
+pub question-bounds : (refusal : Station → Station → ℕ) (b : List ℕ) → questionBodyRefusal refusal b ≡ 0 → (length b ≡ 6) × (refusal (stationIn b 0) (stationIn b 3) ≡ 0)
+unfolding questionBodyRefusal
+question-bounds refusal b e =
     let p = pass 22 (not (eqb (length b) 6)) _ e in
     (eqb-true (length b) 6 (not-false _ (p .0)), p .1)
 
@@ -94,24 +94,24 @@ body-made bytes at next e =
     ap (λ (j : ℕ). take j (drop (at + 3) bytes)) k
 
 module _ (r : Refusing) (bytes : List ℕ) (at : ℕ) where
-  pub field-cut : length bytes < pastField bytes at → 21 ≡ fieldNumber r bytes at
-  unfolding fieldNumber
+  pub field-cut : length bytes < pastField bytes at → 21 ≡ fieldRefusal r bytes at
+  unfolding fieldRefusal
   field-cut h = stops 21 _ (lt-ltb (length bytes) (pastField bytes at) h)
 
-  pub field-whole : (k : ℕ) → pastField bytes at ≤ length bytes → k ≡ bodyNumber r (tagAt bytes at) (bodyAt bytes at) → k ≡ fieldNumber r bytes at
-  unfolding fieldNumber
+  pub field-whole : (k : ℕ) → pastField bytes at ≤ length bytes → k ≡ bodyRefusal r (tagAt bytes at) (bodyAt bytes at) → k ≡ fieldRefusal r bytes at
+  unfolding fieldRefusal
   field-whole k h e = passes 21 (le-ltb (length bytes) (pastField bytes at) h) e
 
   -- the same with the body at hand, and with the place past the field
-  pub field-made : (b : List ℕ) (k next : ℕ) → next ≡ pastField bytes at → next ≤ length bytes → b ≡ bodyAt bytes at → k ≡ bodyNumber r (tagAt bytes at) b → k ≡ fieldNumber r bytes at
-  field-made b k next e h f g = field-whole k (omega arith) (g ∙ ap (bodyNumber r (tagAt bytes at)) f)
+  pub field-made : (b : List ℕ) (k next : ℕ) → next ≡ pastField bytes at → next ≤ length bytes → b ≡ bodyAt bytes at → k ≡ bodyRefusal r (tagAt bytes at) b → k ≡ fieldRefusal r bytes at
+  field-made b k next e h f g = field-whole k (omega arith) (g ∙ ap (bodyRefusal r (tagAt bytes at)) f)
 
   -- what its number of 0 says: it is whole, and its body has that number
-  module _ (e : fieldNumber r bytes at ≡ 0) where
+  module _ (e : fieldRefusal r bytes at ≡ 0) where
     pub whole : pastField bytes at ≤ length bytes
-    unfolding fieldNumber
+    unfolding fieldRefusal
     whole = ltb-false (length bytes) (pastField bytes at) (pass 20 (cutShort bytes at) _ e .0)
 
-    pub body-zero : bodyNumber r (tagAt bytes at) (bodyAt bytes at) ≡ 0
-    unfolding fieldNumber
+    pub body-zero : bodyRefusal r (tagAt bytes at) (bodyAt bytes at) ≡ 0
+    unfolding fieldRefusal
     body-zero = pass 20 (cutShort bytes at) _ e .1

@@ -4,9 +4,9 @@ use mathlib.Core.List.{List, _∷_, _++_}
 use mathlib.Core.Bool.{Bool}
 use lib.ListN.{length, getD, take, drop}
 use lib.Dec.{ltb, eqb}
-use Rattle.lists.specs.Bytes.{wordAt, wordBytes}
+use Rattle.buffer.specs.Bytes.{wordAt, wordBytes}
 use Rattle.lists.specs.Places.{row}
-use Rattle.address.specs.Wide.{stationIn, addressIn}
+use Rattle.address_bytes.specs.Wide.{stationIn, addressIn}
 use Rattle.chart.specs.declared.ChartNode.{ChartNode}
 use Rattle.chart.specs.declared.Link.{Link}
 use Rattle.chart.specs.Values.{longestLabel}

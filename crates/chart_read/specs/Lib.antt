@@ -1,3 +1,3 @@
 pub mod Fields
 pub mod Reading
-pub mod ByKeys
+pub mod Contracts

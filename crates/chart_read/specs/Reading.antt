@@ -6,14 +6,14 @@ use lib.ListN.{length, getD, set}
 use lib.Dec.{ltb, leb, eqb}
 use Rattle.lists.specs.Refusals.{refuse}
 use Rattle.address.specs.declared.Station.{Station}
-use Rattle.address.specs.Wide.{stationIn}
+use Rattle.address_bytes.specs.Wide.{stationIn}
 use Rattle.chart.specs.declared.ChartNode.{ChartNode}
 use Rattle.chart.specs.declared.Link.{Link}
 use Rattle.chart.specs.declared.Nodes.{Nodes}
 use Rattle.chart.specs.declared.Links.{Links}
 use Rattle.chart.specs.declared.Chart.{Chart}
 use Rattle.chart.specs.Values.{noChart}
-use Rattle.chart.specs.Numbers.{nodeNumber, linkNumber, questionNumber}
+use Rattle.chart.specs.Refusals.{nodeRefusal, linkRefusal, questionRefusal}
 use Rattle.chart_read.specs.declared.ChartRead.{ChartRead}
 use Rattle.chart_read.specs.Fields.{nodeTag, linkTag, questionTag, shortestNode, longestNode, linkLength, questionLength, tagAt, bodyAt, pastField, cutShort, nodeIn, linkIn}
 
@@ -73,65 +73,65 @@ unfoldable pub refusing : SoFar → Refusing
 refusing s =
     let c = s .chart in
     record {
-      node = nodeNumber (nodeLate s) (c .nodes);
-      link = linkNumber (s .asked) (c .nodes) (c .links);
-      question = questionNumber (s .asked) (c .nodes);
+      node = nodeRefusal (nodeLate s) (c .nodes);
+      link = linkRefusal (s .asked) (c .nodes) (c .links);
+      question = questionRefusal (s .asked) (c .nodes);
     }
 
 -- a node's body: 23 for a length that the tag does not allow, then the node's own number
-unfoldable pub nodeBodyNumber : (ChartNode → ℕ) → List ℕ → ℕ
-nodeBodyNumber number b =
+unfoldable pub nodeBodyRefusal : (ChartNode → ℕ) → List ℕ → ℕ
+nodeBodyRefusal refusal b =
     refuse 23 (ltb (length b) shortestNode)
     (refuse 23 (ltb longestNode (length b))
-    (number (nodeIn b)))
+    (refusal (nodeIn b)))
 
 -- a link's last byte is 1 on or 0 off, else it is out of range
-unfoldable pub linkBodyNumber : (Link → ℕ) → List ℕ → ℕ
-linkBodyNumber number b =
+unfoldable pub linkBodyRefusal : (Link → ℕ) → List ℕ → ℕ
+linkBodyRefusal refusal b =
     refuse 23 (not (eqb (length b) linkLength))
     (refuse 24 (ltb 1 (getD b 8 0))
-    (number (linkIn b)))
+    (refusal (linkIn b)))
 
 -- the question's body likewise
-unfoldable pub questionBodyNumber : (Station → Station → ℕ) → List ℕ → ℕ
-questionBodyNumber number b =
+unfoldable pub questionBodyRefusal : (Station → Station → ℕ) → List ℕ → ℕ
+questionBodyRefusal refusal b =
     refuse 23 (not (eqb (length b) questionLength))
-    (number (stationIn b 0) (stationIn b 3))
+    (refusal (stationIn b 0) (stationIn b 3))
 
 -- a body by its tag; 22 for any other tag
-unfoldable pub bodyNumber : Refusing → ℕ → List ℕ → ℕ
-bodyNumber r tag b =
-    cond (eqb tag nodeTag) (nodeBodyNumber (r .node) b)
-    (cond (eqb tag linkTag) (linkBodyNumber (r .link) b)
-    (cond (eqb tag questionTag) (questionBodyNumber (r .question) b)
+unfoldable pub bodyRefusal : Refusing → ℕ → List ℕ → ℕ
+bodyRefusal r tag b =
+    cond (eqb tag nodeTag) (nodeBodyRefusal (r .node) b)
+    (cond (eqb tag linkTag) (linkBodyRefusal (r .link) b)
+    (cond (eqb tag questionTag) (questionBodyRefusal (r .question) b)
     22))
 
 -- the field at a place: 21 where it is cut short
-unfoldable pub fieldNumber : Refusing → List ℕ → ℕ → ℕ
-fieldNumber r bytes at = refuse 21 (cutShort bytes at) (bodyNumber r (tagAt bytes at) (bodyAt bytes at))
+unfoldable pub fieldRefusal : Refusing → List ℕ → ℕ → ℕ
+fieldRefusal r bytes at = refuse 21 (cutShort bytes at) (bodyRefusal r (tagAt bytes at) (bodyAt bytes at))
 
 -- ---- all fields
 
 -- a refusal and the place where its field begins, beside a chart of zeros
 abbrev pub refusedAt : ℕ → ℕ → ChartRead
-refusedAt k at = record { number = k; place = at; chart = noChart }
+refusedAt k at = record { refusal = k; place = at; chart = noChart }
 
 -- the input's end: the chart, or 31 at the input's length where the question is missing
 abbrev pub atEnd : SoFar → ℕ → ChartRead
-atEnd s long = cond (s .asked) (record { number = 0; place = 0; chart = s .chart }) (refusedAt 31 long)
+atEnd s long = cond (s .asked) (record { refusal = 0; place = 0; chart = s .chart }) (refusedAt 31 long)
 
 -- after a field: on to the next, or the field's number and its place
-abbrev pub onward : ℕ → ℕ → (Unit {0} → ChartRead) → ChartRead
-onward zero at go = go tt
-onward (suc k) at go = refusedAt (suc k) at
+abbrev pub onward : ℕ → ℕ → ChartRead → ChartRead
+onward zero at later = later
+onward (suc k) at later = refusedAt (suc k) at
 
 -- the fields from a place on, at most `fuel` of them
 unfoldable pub walk : ℕ → SoFar → List ℕ → ℕ → ChartRead
 walk zero s bytes at = atEnd s (length bytes)
 walk (suc fuel) s bytes at =
     cond (leb (length bytes) at) (atEnd s (length bytes))
-    (onward (fieldNumber (refusing s) bytes at) at (λ u. walk fuel (withBody s (tagAt bytes at) (bodyAt bytes at)) bytes (pastField bytes at)))
+    (onward (fieldRefusal (refusing s) bytes at) at (walk fuel (withBody s (tagAt bytes at) (bodyAt bytes at)) bytes (pastField bytes at)))
 
 -- the whole input. Each field has a byte at least, so there are no more fields than bytes
-unfoldable pub chartReadOf : List ℕ → ChartRead
-chartReadOf bytes = walk (length bytes) nothing bytes 0
+unfoldable pub readChartOf : List ℕ → ChartRead
+readChartOf bytes = walk (length bytes) nothing bytes 0

@@ -6,13 +6,14 @@ ghost use Prim.Native.Nat.{_+_, _<_, _≤_};
 ghost use lib.ListN.{length};
 ghost use Rattle.lists.specs.Places.{row};
 ghost use Rattle.chart_read.specs.Fields.{pastField, bodyAt, bytesFrom, nodeIn, linkIn};
+ghost use Rattle.chart.specs.Values.{longestLabel};
 
 // The place past the field that begins at a place.
 pub fn past_field(bytes: &[u8], at: usize) -> usize
     requires { ⌜ at < length (now bytes) ⌝ }
     ensures { λ r. ⌜ r ≡ pastField (now (bytes .entry)) at ⌝ }
 {
-    at + 3 + lists::word_at(bytes, at + 1) as usize
+    at + 3 + buffer::word_at(bytes, at + 1) as usize
 }
 
 // The body of the field that begins at a place, which is whole.
@@ -27,8 +28,8 @@ pub fn body_at(bytes: &[u8], at: usize) -> &[u8]
 
 // The label: n bytes after the station, and zeros after them.
 fn label_in(b: &[u8], n: usize) -> [u8; 24]
-    requires { ⌜ (n ≤ 24) × (3 + n ≤ length (now b)) ⌝ }
-    ensures { λ r. ⌜ r ≡ row 24 0 (bytesFrom (now (b .entry)) 3) n ⌝ }
+    requires { ⌜ (n ≤ longestLabel) × (3 + n ≤ length (now b)) ⌝ }
+    ensures { λ r. ⌜ r ≡ row longestLabel 0 (bytesFrom (now (b .entry)) 3) n ⌝ }
 {
     let mut label = [0u8; 24];
     let mut i: usize = 0;
@@ -44,7 +45,7 @@ pub fn node_in(b: &[u8]) -> ChartNode
     requires { ⌜ (3 ≤ length (now b)) × (length (now b) ≤ 27) ⌝ }
     ensures { λ r. ⌜ r ≡ nodeIn (now (b .entry)) ⌝ }
 {
-    let s = wide::station_in(b, 0);
+    let s = address_bytes::station_in(b, 0);
     let n = b.len() - 3;
     let label = label_in(b, n);
     ChartNode {
@@ -59,8 +60,8 @@ pub fn link_in(b: &[u8]) -> Link
     requires { ⌜ length (now b) ≡ 9 ⌝ }
     ensures { λ r. ⌜ r ≡ linkIn (now (b .entry)) ⌝ }
 {
-    let p = wide::address_in(b, 0);
-    let q = wide::address_in(b, 4);
+    let p = address_bytes::address_in(b, 0);
+    let q = address_bytes::address_in(b, 4);
     let on = b[8] == 1;
     Link { a: p, b: q, on: on }
 }

@@ -8,27 +8,27 @@ use chart::Links;
 use chart::Nodes;
 use numbers::LINK_TAG;
 use numbers::NODE_TAG;
-use numbers::field_number;
+use numbers::field_refusal;
 ghost use mathlib.Core.Path.{_≡_};
-ghost use Rattle.chart_read.specs.Reading.{refusedAt, chartReadOf};
+ghost use Rattle.chart_read.specs.Reading.{refusedAt, readChartOf};
 
 mod bodies;
 mod numbers;
 
 // The chart, or the number of the first bad field and the place where it begins.
 pub struct ChartRead {
-    pub number: u8,
+    pub refusal: u8,
     pub place: usize,
     pub chart: Chart,
 }
 
 // A refusal and its place, with a chart of zeros.
-fn refused_at(number: u8, place: usize) -> ChartRead
-    ensures { λ r. ⌜ r ≡ refusedAt number place ⌝ }
+fn refused_at(refusal: u8, place: usize) -> ChartRead
+    ensures { λ r. ⌜ r ≡ refusedAt refusal place ⌝ }
 {
     let c = chart::no_chart();
     ChartRead {
-        number: number,
+        refusal: refusal,
         place: place,
         chart: c,
     }
@@ -37,7 +37,7 @@ fn refused_at(number: u8, place: usize) -> ChartRead
 // The chart that the bytes are, or the number of the first bad field and its place. The keys of its nodes and of its links' ends are kept beside
 // them, so that a field is compared with those before it by one number each.
 pub fn read_chart(bytes: &[u8]) -> ChartRead
-    ensures { λ r. ⌜ r ≡ chartReadOf (now (bytes .entry)) ⌝ }
+    ensures { λ r. ⌜ r ≡ readChartOf (now (bytes .entry)) ⌝ }
 {
     let no_node = chart::no_node();
     let no_link = chart::no_link();
@@ -46,14 +46,14 @@ pub fn read_chart(bytes: &[u8]) -> ChartRead
     let mut from = no_node.station;
     let mut to = no_node.station;
     let mut keys = [0u32; 16];
-    let mut near = [0u32; 48];
-    let mut far = [0u32; 48];
+    let mut akeys = [0u32; 48];
+    let mut bkeys = [0u32; 48];
     let mut n: usize = 0;
     let mut m: usize = 0;
     let mut asked = false;
     let mut at: usize = 0;
     while at < bytes.len() {
-        let k = field_number(asked, &keys, n, &near, &far, m, bytes, at);
+        let k = field_refusal(asked, &keys, n, &akeys, &bkeys, m, bytes, at);
         if k != 0 {
             return refused_at(k, at);
         }
@@ -62,20 +62,20 @@ pub fn read_chart(bytes: &[u8]) -> ChartRead
         match bytes[at] {
             NODE_TAG => {
                 let node = node_in(b);
-                keys[n] = chart_keys::station_key(node.station);
+                keys[n] = chart_refuse::station_key(node.station);
                 nodes[n] = node;
                 n += 1;
             }
             LINK_TAG => {
                 let link = link_in(b);
-                near[m] = chart_keys::end_key(link.a);
-                far[m] = chart_keys::end_key(link.b);
+                akeys[m] = chart_refuse::end_key(link.a);
+                bkeys[m] = chart_refuse::end_key(link.b);
                 links[m] = link;
                 m += 1;
             }
             _ => {
-                from = wide::station_in(b, 0);
-                to = wide::station_in(b, 3);
+                from = address_bytes::station_in(b, 0);
+                to = address_bytes::station_in(b, 3);
                 asked = true;
             }
         }
@@ -85,7 +85,7 @@ pub fn read_chart(bytes: &[u8]) -> ChartRead
         return refused_at(31, bytes.len());
     }
     ChartRead {
-        number: 0,
+        refusal: 0,
         place: 0,
         chart: Chart {
             nodes: Nodes {

@@ -14,11 +14,11 @@ use chart::Link;
 use chart::MOST_LINKS;
 use chart::MOST_NODES;
 ghost use mathlib.Core.Path.{_≡_};
-ghost use Rattle.chart_keys.specs.Keys.{nodeByKeys, linkByKeys, questionByKeys};
+ghost use Rattle.chart_refuse.specs.Contracts.{nodeRefusalByKeys, linkRefusalByKeys, questionRefusalByKeys};
 
 // The number that refuses a node after those with the first n keys, or 0. It is late after a link or the question.
-pub fn node_number(late: bool, keys: &[u32; 16], n: usize, node: ChartNode) -> u8
-    ensures { λ r. ⌜ r ≡ nodeByKeys late (now (keys .entry)) n node ⌝ }
+pub fn node_refusal(late: bool, keys: &[u32; 16], n: usize, node: ChartNode) -> u8
+    ensures { λ r. ⌜ r ≡ nodeRefusalByKeys late (now (keys .entry)) n node ⌝ }
 {
     if LONGEST_LABEL < node.length {
         return 23;
@@ -39,16 +39,16 @@ pub fn node_number(late: bool, keys: &[u32; 16], n: usize, node: ChartNode) -> u
 }
 
 // The number that refuses a link after the nodes with the first n keys and the first m links, or 0. It is late after the question.
-pub fn link_number(
+pub fn link_refusal(
     late: bool,
     keys: &[u32; 16],
     n: usize,
-    near: &[u32; 48],
-    far: &[u32; 48],
+    akeys: &[u32; 48],
+    bkeys: &[u32; 48],
     m: usize,
     l: Link,
 ) -> u8
-    ensures { λ r. ⌜ r ≡ linkByKeys late (now (keys .entry)) n (now (near .entry)) (now (far .entry)) m l ⌝ }
+    ensures { λ r. ⌜ r ≡ linkRefusalByKeys late (now (keys .entry)) n (now (akeys .entry)) (now (bkeys .entry)) m l ⌝ }
 {
     if !(end_in_range(l.a) & end_in_range(l.b)) {
         return 24;
@@ -70,15 +70,15 @@ pub fn link_number(
     if same_station(a, b) {
         return 29;
     }
-    if is_used(near, far, m, l.a) | is_used(near, far, m, l.b) {
+    if is_used(akeys, bkeys, m, l.a) | is_used(akeys, bkeys, m, l.b) {
         return 30;
     }
     0
 }
 
 // The number that refuses a question after the nodes with the first n keys, or 0. It is late after another.
-pub fn question_number(late: bool, keys: &[u32; 16], n: usize, from: Station, to: Station) -> u8
-    ensures { λ r. ⌜ r ≡ questionByKeys late (now (keys .entry)) n from to ⌝ }
+pub fn question_refusal(late: bool, keys: &[u32; 16], n: usize, from: Station, to: Station) -> u8
+    ensures { λ r. ⌜ r ≡ questionRefusalByKeys late (now (keys .entry)) n from to ⌝ }
 {
     if !(station_in_range(from) & station_in_range(to)) {
         return 24;

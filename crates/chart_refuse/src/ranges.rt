@@ -5,7 +5,7 @@ use chart::ChartNode;
 ghost use mathlib.Core.Path.{_≡_};
 ghost use Prim.Native.Nat.{_≤_};
 ghost use Rattle.lists.specs.Places.{anyBelow};
-ghost use Rattle.chart.specs.Values.{strayByte, nodeInRange, endInRange};
+ghost use Rattle.chart.specs.Values.{longestLabel, strayByte, nodeInRange, endInRange};
 
 const LOWEST_BYTE: u8 = 32;
 
@@ -13,7 +13,7 @@ const HIGHEST_BYTE: u8 = 126;
 
 // Whether one of the first n bytes is none that a label may have.
 fn any_stray(label: [u8; 24], n: usize) -> bool
-    requires { ⌜ n ≤ 24 ⌝ }
+    requires { ⌜ n ≤ longestLabel ⌝ }
     ensures { λ r. ⌜ r ≡ anyBelow (strayByte label) n ⌝ }
 {
     let mut i: usize = 0;
@@ -29,7 +29,7 @@ fn any_stray(label: [u8; 24], n: usize) -> bool
 
 // Whether the station and the label are in range.
 pub fn node_in_range(n: ChartNode) -> bool
-    requires { ⌜ n .length ≤ 24 ⌝ }
+    requires { ⌜ n .length ≤ longestLabel ⌝ }
     ensures { λ r. ⌜ r ≡ nodeInRange n ⌝ }
 {
     let label = n.label;

@@ -6,16 +6,16 @@ use Rattle.address.specs.declared.Station.{Station}
 use Rattle.address.specs.Address.{stationOf}
 use Rattle.chart.specs.declared.Nodes.{Nodes}
 use Rattle.chart.specs.declared.Chart.{Chart}
-use Rattle.chart.specs.Values.{linkAt, written}
+use Rattle.chart.specs.Values.{linkAt, hasNode}
 use Rattle.chart.proofs.Laws.{question-passed}
-use Rattle.chart_numbers.specs.Numbers.{chartNumber}
+use Rattle.chart_refuse.specs.Refusal.{chartRefusal}
 use Rattle.chart_write.specs.Promises.{Accepted}
-use Rattle.chart_numbers.proofs.Laws.{passed, node-of, link-of}
+use Rattle.chart_refuse.proofs.Laws.{passed, node-of, link-of}
 
-pub both-of : (ns : Nodes) (s t : Station) → (written ns s && written ns t) ≡ true → (written ns s ≡ true) × (written ns t ≡ true)
-both-of ns s t h = (and-left (written ns s) (written ns t) h, and-right (written ns s) (written ns t) h)
+pub both-of : (ns : Nodes) (s t : Station) → (hasNode ns s && hasNode ns t) ≡ true → (hasNode ns s ≡ true) × (hasNode ns t ≡ true)
+both-of ns s t h = (and-left (hasNode ns s) (hasNode ns t) h, and-right (hasNode ns s) (hasNode ns t) h)
 
-pub accepted : (c : Chart) → chartNumber c ≡ 0 → Accepted c
+pub accepted : (c : Chart) → chartRefusal c ≡ 0 → Accepted c
 accepted c h =
     let p = passed c h in
     let q = both-of (c .nodes) (c .from) (c .to) (question-passed false (c .nodes) (c .from) (c .to) (p .question) .ends) in

@@ -12,8 +12,8 @@ use Rattle.chart.specs.declared.ChartNode.{ChartNode}
 use Rattle.chart.specs.declared.Link.{Link}
 use Rattle.chart.specs.declared.Nodes.{Nodes}
 use Rattle.chart.specs.declared.Links.{Links}
-use Rattle.chart.specs.Values.{nodeAt, linkAt, strayByte, nodeInRange, standsAt, written, endsAt, used}
-use Rattle.chart.specs.Numbers.{nodeBy, linkBy, questionBy, nodeNumber, linkNumber, questionNumber}
+use Rattle.chart.specs.Values.{nodeAt, linkAt, strayByte, nodeInRange, standsAt, hasNode, endsAt, hasEnd}
+use Rattle.chart.specs.Refusals.{nodeRefusalBy, linkRefusalBy, questionRefusalBy, nodeRefusal, linkRefusal, questionRefusal}
 use Rattle.chart_write.specs.Writing.{tidyNode}
 
 -- the same stations at the places below the same count
@@ -26,35 +26,35 @@ pub record SameLinks (ls ks : Links) : Type 0 where
   pub links : (i : ℕ) → i < ls .count → linkAt ls i ≡ linkAt ks i
 
 module _ (ns ms : Nodes) (e : SameNodes ns ms) where
-  pub written-agree : (s : Station) → written ns s ≡ written ms s
-  unfolding written standsAt
+  pub written-agree : (s : Station) → hasNode ns s ≡ hasNode ms s
+  unfolding hasNode standsAt
   written-agree s =
       any-agree (standsAt ns s) (standsAt ms s) (ns .count) (λ i h. ap (λ (t : Station). sameStation t s) (e .stations i h))
       ∙ ap (anyBelow (standsAt ms s)) (e .count)
 
-  pub node-agree : (late : Bool) (n : ChartNode) → nodeNumber late ns n ≡ nodeNumber late ms n
-  unfolding nodeNumber
-  node-agree late n = λ i. nodeBy late (e .count i) (λ (s : Station). written-agree s i) n
+  pub node-agree : (late : Bool) (n : ChartNode) → nodeRefusal late ns n ≡ nodeRefusal late ms n
+  unfolding nodeRefusal
+  node-agree late n = λ i. nodeRefusalBy late (e .count i) (λ (s : Station). written-agree s i) n
 
-  pub question-agree : (late : Bool) (from to : Station) → questionNumber late ns from to ≡ questionNumber late ms from to
-  unfolding questionNumber
-  question-agree late from to = λ i. questionBy late (e .count i) (λ (s : Station). written-agree s i) from to
+  pub question-agree : (late : Bool) (from to : Station) → questionRefusal late ns from to ≡ questionRefusal late ms from to
+  unfolding questionRefusal
+  question-agree late from to = λ i. questionRefusalBy late (e .count i) (λ (s : Station). written-agree s i) from to
 
   module _ (ls ks : Links) (f : SameLinks ls ks) where
-    used-agree : (a : Address) → used ls a ≡ used ks a
-    unfolding used endsAt
+    used-agree : (a : Address) → hasEnd ls a ≡ hasEnd ks a
+    unfolding hasEnd endsAt
     used-agree a =
         any-agree (endsAt ls a) (endsAt ks a) (ls .count) (λ i h. ap (λ (l : Link). sameAddress (l .a) a || sameAddress (l .b) a) (f .links i h))
         ∙ ap (anyBelow (endsAt ks a)) (f .count)
 
-    pub link-agree : (late : Bool) (l : Link) → linkNumber late ns ls l ≡ linkNumber late ms ks l
-    unfolding linkNumber
-    link-agree late l = λ i. linkBy late (e .count i) (f .count i) (λ (s : Station). written-agree s i) (λ (a : Address). used-agree a i) l
+    pub link-agree : (late : Bool) (l : Link) → linkRefusal late ns ls l ≡ linkRefusal late ms ks l
+    unfolding linkRefusal
+    link-agree late l = λ i. linkRefusalBy late (e .count i) (f .count i) (λ (s : Station). written-agree s i) (λ (a : Address). used-agree a i) l
 
 -- a node's own number goes by its station, its label's length and whether the label is in range
 pub node-like : (late : Bool) (ns : Nodes) (n m : ChartNode) → n .station ≡ m .station → ltb 24 (n .length) ≡ ltb 24 (m .length)
-    → nodeInRange n ≡ nodeInRange m → nodeNumber late ns n ≡ nodeNumber late ns m
-unfolding nodeNumber nodeBy
+    → nodeInRange n ≡ nodeInRange m → nodeRefusal late ns n ≡ nodeRefusal late ns m
+unfolding nodeRefusal nodeRefusalBy
 node-like late ns n m p q r = rw (q, r, p)
 
 -- what stands past a label's length does not count
@@ -68,6 +68,6 @@ tidy-in-range n =
     ap (λ (b : Bool). stationInRange (n .station) && not b)
     (any-agree (strayByte (row 24 0 (elementAt 0 (n .label)) (n .length))) (strayByte (n .label)) (n .length) (tidy-stray n))
 
-pub tidy-number : (late : Bool) (ns : Nodes) (n : ChartNode) → nodeNumber late ns (tidyNode n) ≡ nodeNumber late ns n
+pub tidy-refusal : (late : Bool) (ns : Nodes) (n : ChartNode) → nodeRefusal late ns (tidyNode n) ≡ nodeRefusal late ns n
 unfolding tidyNode
-tidy-number late ns n = node-like late ns (tidyNode n) n refl refl (tidy-in-range n)
+tidy-refusal late ns n = node-like late ns (tidyNode n) n refl refl (tidy-in-range n)

@@ -8,15 +8,15 @@ use borrow.Author.Tests.{le-ltb}
 use Rattle.lists.specs.Places.{row}
 use Rattle.lists.specs.Refusals.{refuse, orElse}
 use Rattle.lists.proofs.Places.{any-none, row-at}
-use Rattle.lists.proofs.Chains.{number-agree}
+use Rattle.lists.proofs.Chains.{refusal-agree}
 use Rattle.address.specs.Address.{stationInRange}
 use Rattle.chart.specs.declared.ChartNode.{ChartNode}
 use Rattle.chart.specs.declared.Nodes.{Nodes}
 use Rattle.chart.specs.declared.Links.{Links}
 use Rattle.chart.specs.declared.Chart.{Chart}
 use Rattle.chart.specs.Values.{noNode, nodeAt, linkAt, nodeInRange}
-use Rattle.chart.specs.Numbers.{nodeNumber}
-use Rattle.chart_numbers.specs.Numbers.{nodesBefore, linksBefore, nodeNumberAt, linkNumberAt, valuesNumber, chartNumber}
+use Rattle.chart.specs.Refusals.{nodeRefusal}
+use Rattle.chart_refuse.specs.Refusal.{nodesBefore, linksBefore, nodeRefusalAt, linkRefusalAt, chartValuesRefusal, chartRefusal}
 use Rattle.chart_write.specs.Promises.{unlabelledAt, unlabelled, LabelsInRange, LabelsAreInk}
 use Rattle.chart_write.proofs.Agree.{SameNodes, node-agree, link-agree, question-agree, node-like}
 
@@ -46,12 +46,12 @@ module _ (ns : Nodes) where
   bare-ranged r i h =
       ap (λ (b : Bool). stationInRange (nodeAt ns i .station) && not b) (r .bytes i h ∙ sym (any-none _))
 
-  bare-number : LabelsInRange ns → (i : ℕ) → i < ns .count → nodeNumberAt ns i ≡ nodeNumberAt (bare ns) i
-  unfolding nodeNumberAt
-  bare-number r i h =
+  bare-refusal : LabelsInRange ns → (i : ℕ) → i < ns .count → nodeRefusalAt ns i ≡ nodeRefusalAt (bare ns) i
+  unfolding nodeRefusalAt
+  bare-refusal r i h =
       node-agree (nodesBefore ns i) (nodesBefore (bare ns) i) (bare-before i h) false (nodeAt ns i)
       ∙ node-like false (nodesBefore (bare ns) i) (nodeAt ns i) (unlabelledAt ns i) own (le-ltb 24 (nodeAt ns i .length) (r .short i h) ∙ none) (bare-ranged r i h)
-      ∙ ap (nodeNumber false (nodesBefore (bare ns) i)) (bare-at i h)
+      ∙ ap (nodeRefusal false (nodesBefore (bare ns) i)) (bare-at i h)
     where
       own : nodeAt ns i .station ≡ unlabelledAt ns i .station
       own = unfold unlabelledAt in refl
@@ -59,15 +59,15 @@ module _ (ns : Nodes) where
       none : false ≡ ltb 24 (unlabelledAt ns i .length)
       none = unfold unlabelledAt in refl
 
-  bare-link : (ls : Links) (i : ℕ) → linkNumberAt ns ls i ≡ linkNumberAt (bare ns) ls i
-  unfolding linkNumberAt
+  bare-link : (ls : Links) (i : ℕ) → linkRefusalAt ns ls i ≡ linkRefusalAt (bare ns) ls i
+  unfolding linkRefusalAt
   bare-link ls i = link-agree ns (bare ns) bare-same (linksBefore ls i) (linksBefore ls i) (record { count = refl; links = λ j h. refl }) false (linkAt ls i)
 
 pub labels-are-ink : (c : Chart) → LabelsAreInk c
-unfolding chartNumber valuesNumber unlabelled bare
+unfolding chartRefusal chartValuesRefusal unlabelled bare
 labels-are-ink c r =
     let ns = c .nodes in
-    let n = number-agree (nodeNumberAt ns) (nodeNumberAt (bare ns)) (ns .count) (bare-number ns r) in
-    let l = number-agree (linkNumberAt ns (c .links)) (linkNumberAt (bare ns) (c .links)) (c .links .count) (λ i h. bare-link ns (c .links) i) in
+    let n = refusal-agree (nodeRefusalAt ns) (nodeRefusalAt (bare ns)) (ns .count) (bare-refusal ns r) in
+    let l = refusal-agree (linkRefusalAt ns (c .links)) (linkRefusalAt (bare ns) (c .links)) (c .links .count) (λ i h. bare-link ns (c .links) i) in
     let q = question-agree ns (bare ns) (bare-same ns) false (c .from) (c .to) in
     λ j. refuse 26 (ltb 16 (ns .count)) (refuse 26 (ltb 48 (c .links .count)) (orElse (n j) (orElse (l j) (q j))))

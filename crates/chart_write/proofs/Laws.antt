@@ -8,14 +8,14 @@ use lib.Seq.{sets}
 use borrow.Author.Tests.{lt-ltb, le-ltb}
 use Rattle.lists.specs.Places.{elementAt, firsts, joined}
 use Rattle.lists.specs.Refusals.{unlessRefused}
-use Rattle.lists.specs.declared.Written.{Written}
-use Rattle.lists.specs.declared.Written.the-variants.{Wrote, Refused}
-use Rattle.lists.specs.Writing.{writeNumber, writeCount, wroteUnless}
+use Rattle.buffer.specs.declared.Written.{Written}
+use Rattle.buffer.specs.declared.Written.the-variants.{Wrote, Refused}
+use Rattle.buffer.specs.Writing.{writtenRefusal, writtenCount, wroteUnless}
 use Rattle.lists.proofs.Places.{length-firsts, length-joined}
 use Rattle.lists.proofs.Refusals.{or-refused, taken, refused}
 use Rattle.lists.proofs.Stores.{sets-append, sets-front}
 use Rattle.lists.proofs.Runs.{length-joined-next, joined-put}
-use Rattle.lists.proofs.Writing.{wrote-number, wrote-count, wrote-taken, wrote-refused}
+use Rattle.buffer.proofs.Writing.{wrote-refusal, wrote-count, wrote-taken, wrote-refused}
 use Rattle.address.specs.declared.Station.{Station}
 use Rattle.chart.specs.declared.ChartNode.{ChartNode}
 use Rattle.chart.specs.declared.Link.{Link}
@@ -24,11 +24,11 @@ use Rattle.chart.specs.declared.Links.{Links}
 use Rattle.chart.specs.declared.Chart.{Chart}
 use Rattle.chart.specs.Values.{nodeAt, linkAt}
 use Rattle.chart.proofs.Laws.{node-read, link-read}
-use Rattle.chart_numbers.specs.Numbers.{chartNumber}
+use Rattle.chart_refuse.specs.Refusal.{chartRefusal}
 use Rattle.chart_read.specs.Fields.{tagged}
-use Rattle.chart_write.specs.Writing.{nodeBody, linkBody, questionBody, nodeField, linkField, questionField, chartBytes, chartRefusal, chartWriteOf, chartAfter}
-use Rattle.chart_write.specs.Storing.{nodeHead, Short}
-use Rattle.chart_numbers.proofs.Laws.{Passed, node-of}
+use Rattle.chart_write.specs.Writing.{nodeBody, linkBody, questionBody, nodeField, linkField, questionField, chartBytes, chartWriteRefusal, writeChartOf, chartAfter}
+use Rattle.chart_write.specs.Contracts.{nodeHead, Short}
+use Rattle.chart_refuse.proofs.Laws.{Passed, node-of}
 
 -- ---- how long the fields are
 
@@ -117,39 +117,39 @@ short-read ns s d i h k = omega (arith, s .short i h, ap (λ (n : ChartNode). n 
 
 -- ---- the answer
 
-pub write-told : (c : Chart) (out : List ℕ) (r : Written) → r ≡ chartWriteOf c (length out)
-    → (writeNumber r ≡ chartRefusal c (length out)) × (writeCount r ≡ unlessRefused (chartRefusal c (length out)) (length (chartBytes c)) 0)
-unfolding chartWriteOf
-write-told c out r e = (ap writeNumber e ∙ wrote-number _ _, ap writeCount e ∙ wrote-count _ _)
+pub write-told : (c : Chart) (out : List ℕ) (r : Written) → r ≡ writeChartOf c (length out)
+    → (writtenRefusal r ≡ chartWriteRefusal c (length out)) × (writtenCount r ≡ unlessRefused (chartWriteRefusal c (length out)) (length (chartBytes c)) 0)
+unfolding writeChartOf
+write-told c out r e = (ap writtenRefusal e ∙ wrote-refusal _ _, ap writtenCount e ∙ wrote-count _ _)
 
 -- what is answered, and what the buffer then holds
 pub record Answer (c : Chart) (out : List ℕ) (r : Written) (after : List ℕ) : Type 0 where
-  pub answer : r ≡ chartWriteOf c (length out)
+  pub answer : r ≡ writeChartOf c (length out)
   pub buffer : after ≡ chartAfter c out
 
-refused-as : (c : Chart) (out : List ℕ) (k : ℕ) → chartRefusal c (length out) ≡ k → (k ≡ 0 → ⊥) → Answer c out (Refused k) out
-unfolding chartWriteOf chartAfter
+refused-as : (c : Chart) (out : List ℕ) (k : ℕ) → chartWriteRefusal c (length out) ≡ k → (k ≡ 0 → ⊥) → Answer c out (Refused k) out
+unfolding writeChartOf chartAfter
 refused-as c out k e h = record {
   answer = wrote-refused k _ h ∙ ap (λ (j : ℕ). wroteUnless j (length (chartBytes c))) (sym e);
   buffer = sym (ap (λ (j : ℕ). unlessRefused j (chartBytes c ++ drop (length (chartBytes c)) out) out) e ∙ refused _ _ k h);
 }
 
-pub write-refused : (c : Chart) (out : List ℕ) {k : ℕ} → k ≡ chartNumber c → (k ≡ 0 → ⊥) → Answer c out (Refused k) out
-unfolding chartRefusal
-write-refused c out {k} e h = refused-as c out k (or-refused (chartNumber c) _ (λ z. h (e ∙ z)) ∙ sym e) h
+pub write-refused : (c : Chart) (out : List ℕ) {k : ℕ} → k ≡ chartRefusal c → (k ≡ 0 → ⊥) → Answer c out (Refused k) out
+unfolding chartWriteRefusal
+write-refused c out {k} e h = refused-as c out k (or-refused (chartRefusal c) _ (λ z. h (e ∙ z)) ∙ sym e) h
 
-pub write-short : (c : Chart) (out : List ℕ) → chartNumber c ≡ 0 → length out < length (chartBytes c) → Answer c out (Refused 10) out
+pub write-short : (c : Chart) (out : List ℕ) → chartRefusal c ≡ 0 → length out < length (chartBytes c) → Answer c out (Refused 10) out
 write-short c out z h = refused-as c out 10 (ten z) (λ e. omega arith)
   where
-    ten : chartNumber c ≡ 0 → chartRefusal c (length out) ≡ 10
-    ten z = unfold chartRefusal in rw (z, lt-ltb (length out) (length (chartBytes c)) h)
+    ten : chartRefusal c ≡ 0 → chartWriteRefusal c (length out) ≡ 10
+    ten z = unfold chartWriteRefusal in rw (z, lt-ltb (length out) (length (chartBytes c)) h)
 
-pub refusal-none : (c : Chart) (room : ℕ) → chartNumber c ≡ 0 → length (chartBytes c) ≤ room → chartRefusal c room ≡ 0
-unfolding chartRefusal
+pub refusal-none : (c : Chart) (room : ℕ) → chartRefusal c ≡ 0 → length (chartBytes c) ≤ room → chartWriteRefusal c room ≡ 0
+unfolding chartWriteRefusal
 refusal-none c room z h = rw (z, le-ltb room (length (chartBytes c)) h)
 
-pub write-wrote : (c : Chart) (out : List ℕ) → chartNumber c ≡ 0 → length (chartBytes c) ≤ length out → Answer c out (Wrote (length (chartBytes c))) (sets out 0 (chartBytes c))
-unfolding chartWriteOf chartAfter
+pub write-wrote : (c : Chart) (out : List ℕ) → chartRefusal c ≡ 0 → length (chartBytes c) ≤ length out → Answer c out (Wrote (length (chartBytes c))) (sets out 0 (chartBytes c))
+unfolding writeChartOf chartAfter
 write-wrote c out z h =
     let e = refusal-none c (length out) z h in
     record { answer = wrote-taken _ e; buffer = sets-front out (chartBytes c) h ∙ sym (taken _ _ e) }

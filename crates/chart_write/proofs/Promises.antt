@@ -6,24 +6,24 @@ use native.Mathlib.Omega.{arith}
 use lib.ListN.{length, take, drop}
 use lib.Seq.{take-at}
 use borrow.Author.Tests.{le-ltb}
-use Rattle.lists.specs.Bytes.{Bytes}
-use Rattle.lists.specs.declared.Written.the-variants.{Wrote}
+use Rattle.buffer.specs.Bytes.{Bytes}
+use Rattle.buffer.specs.declared.Written.the-variants.{Wrote}
 use Rattle.lists.proofs.Refusals.{taken, or-pass}
 use Rattle.lists.proofs.Runs.{joined-most}
-use Rattle.lists.proofs.Writing.{wrote-size, wrote-taken}
+use Rattle.buffer.proofs.Writing.{wrote-size, wrote-taken}
 use Rattle.chart.specs.declared.Chart.{Chart}
 use Rattle.chart.specs.Values.{nodeAt}
-use Rattle.chart_read.specs.Reading.{chartReadOf}
-use Rattle.chart_numbers.specs.Numbers.{valuesNumber, chartNumber}
-use Rattle.chart_write.specs.Writing.{nodeField, chartBytes, chartRefusal, chartWriteOf, chartAfter, tidy}
-use Rattle.chart_write.specs.Promises.{ReadUndoesWrite, WriteUndoesRead, SameNumber}
-use Rattle.chart_numbers.proofs.Laws.{passed, node-of}
+use Rattle.chart_read.specs.Reading.{readChartOf}
+use Rattle.chart_refuse.specs.Refusal.{chartValuesRefusal, chartRefusal}
+use Rattle.chart_write.specs.Writing.{nodeField, chartBytes, chartWriteRefusal, writeChartOf, chartAfter, tidy}
+use Rattle.chart_write.specs.Promises.{ChartReadBack, ChartWrittenBack, SameRefusal}
+use Rattle.chart_refuse.proofs.Laws.{passed, node-of}
 use Rattle.chart_write.proofs.Laws.{length-node, length-chart, refusal-none}
 use Rattle.chart_write.proofs.ReadWhole.{read-written}
 use Rattle.chart_write.proofs.WriteBack.{read-good}
 
 -- an accepted chart has at most 1,065 bytes
-pub chart-short : (c : Chart) → chartNumber c ≡ 0 → length (chartBytes c) ≤ 1065
+pub chart-short : (c : Chart) → chartRefusal c ≡ 0 → length (chartBytes c) ≤ 1065
 chart-short c z =
     let p = passed c z in
     omega (
@@ -35,45 +35,45 @@ chart-short c z =
     )
 
 -- within the limits the counts refuse nothing
-counted : (c : Chart) → c .nodes .count ≤ 16 → c .links .count ≤ 48 → chartNumber c ≡ valuesNumber c
-unfolding chartNumber
+counted : (c : Chart) → c .nodes .count ≤ 16 → c .links .count ≤ 48 → chartRefusal c ≡ chartValuesRefusal c
+unfolding chartRefusal
 counted c n l = rw (le-ltb 16 (c .nodes .count) n, le-ltb 48 (c .links .count) l)
 
-pub same-number : (c : Chart) → SameNumber c
-same-number c n l = read-written c n l .0 ∙ sym (counted c n l)
+pub same-refusal : (c : Chart) → SameRefusal c
+same-refusal c n l = read-written c n l .0 ∙ sym (counted c n l)
 
-pub read-back : (c : Chart) → chartNumber c ≡ 0 → chartReadOf (chartBytes c) ≡ record { number = 0; place = 0; chart = tidy c }
+pub read-back : (c : Chart) → chartRefusal c ≡ 0 → readChartOf (chartBytes c) ≡ record { refusal = 0; place = 0; chart = tidy c }
 read-back c z =
     let p = passed c z in
     read-written c (p .few-nodes) (p .few-links) .1 (sym (counted c (p .few-nodes) (p .few-links)) ∙ z)
 
 -- reading undoes writing, of whatever the writer takes
-pub read-undoes-write : (c : Chart) (out : List ℕ) (n : ℕ) → chartWriteOf c (length out) ≡ Wrote n → ReadUndoesWrite c out n
-unfolding chartWriteOf chartAfter chartRefusal
+pub read-undoes-write : (c : Chart) (out : List ℕ) (n : ℕ) → writeChartOf c (length out) ≡ Wrote n → ChartReadBack c out n
+unfolding writeChartOf chartAfter chartWriteRefusal
 read-undoes-write c out n h =
-    let w = wrote-size n (chartRefusal c (length out)) (length (chartBytes c)) h in
-    let z = or-pass (chartNumber c) _ (w .0) .0 in
+    let w = wrote-size n (chartWriteRefusal c (length out)) (length (chartBytes c)) h in
+    let z = or-pass (chartRefusal c) _ (w .0) .0 in
     let b : take n (chartAfter c out) ≡ chartBytes c =
     ap (take n) (taken _ _ (w .0)) ∙ take-at (chartBytes c) (drop (length (chartBytes c)) out) n (sym (w .1)) in
-    record { chart = ap chartReadOf b ∙ read-back c z; short = omega (arith, w .1, chart-short c z) }
+    record { chart = ap readChartOf b ∙ read-back c z; short = omega (arith, w .1, chart-short c z) }
 
 -- writing undoes reading, of any bytes that the reader takes
-pub write-undoes-read : (bytes : List ℕ) → Bytes bytes → chartReadOf bytes .number ≡ 0 → (out : List ℕ) → length bytes ≤ length out
-    → WriteUndoesRead bytes (chartReadOf bytes .chart) out
-unfolding chartWriteOf chartAfter
+pub write-undoes-read : (bytes : List ℕ) → Bytes bytes → readChartOf bytes .refusal ≡ 0 → (out : List ℕ) → length bytes ≤ length out
+    → ChartWrittenBack bytes (readChartOf bytes .chart) out
+unfolding writeChartOf chartAfter
 write-undoes-read bytes s h out room =
-    let c = chartReadOf bytes .chart in
+    let c = readChartOf bytes .chart in
     let u = read-good bytes s .undone h in
-    let z : chartNumber c ≡ 0 = sym (same-number c (u .few-nodes) (u .few-links)) ∙ ap (λ (b : List ℕ). chartReadOf b .number) (u .same) ∙ h in
+    let z : chartRefusal c ≡ 0 = sym (same-refusal c (u .few-nodes) (u .few-links)) ∙ ap (λ (b : List ℕ). readChartOf b .refusal) (u .same) ∙ h in
     let l : length (chartBytes c) ≡ length bytes = ap length (u .same) in
     let e = refusal-none c (length out) z (omega arith) in
     record {
-      number = z;
+      refusal = z;
       answer = sym (wrote-taken (length (chartBytes c)) e) ∙ ap Wrote l;
       buffer = taken _ _ e ∙ ap (λ (b : List ℕ). b ++ drop (length b) out) (u .same);
       short = omega (arith, chart-short c z);
     }
 
 -- a refusal's place is at most 1,065, however long the input
-pub place-near : (bytes : List ℕ) → Bytes bytes → chartReadOf bytes .place ≤ 1065
+pub place-near : (bytes : List ℕ) → Bytes bytes → readChartOf bytes .place ≤ 1065
 place-near bytes s = read-good bytes s .near

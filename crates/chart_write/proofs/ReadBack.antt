@@ -12,24 +12,24 @@ use lib.Dec.{ltb, eqb}
 use borrow.Author.Tests.{lt-ltb, le-ltb, ltb-true, ltb-false}
 use Rattle.lists.specs.Places.{elementAt, firsts, row, joined}
 use Rattle.lists.specs.Refusals.{refuse}
-use Rattle.lists.specs.Chains.{firstNumber}
+use Rattle.lists.specs.Chains.{firstRefusalBelow}
 use Rattle.lists.proofs.Places.{firsts-at, row-agree, joined-next}
 use Rattle.lists.proofs.Refusals.{or-pass}
 use Rattle.lists.proofs.Chains.{FirstBad}
 use Rattle.lists.proofs.Runs.{joined-at-place}
 use Rattle.address.specs.declared.Station.{Station}
-use Rattle.address.specs.Wide.{stationBytes, stationIn}
+use Rattle.address_bytes.specs.Wide.{stationBytes, stationIn}
 use Rattle.chart.specs.declared.ChartNode.{ChartNode}
 use Rattle.chart.specs.declared.Link.{Link}
 use Rattle.chart.specs.declared.Nodes.{Nodes}
-use Rattle.chart.specs.Numbers.{nodeBy, nodeNumber}
+use Rattle.chart.specs.Refusals.{nodeRefusalBy, nodeRefusal}
 use Rattle.chart_read.specs.Fields.{tagged, pastField, bytesFrom, nodeIn, linkIn}
-use Rattle.chart_read.specs.Reading.{SoFar, withBody, refusing, nodeBodyNumber, linkBodyNumber, questionBodyNumber, bodyNumber, fieldNumber, refusedAt, chartReadOf}
-use Rattle.chart_read.proofs.Fields.{number-there, held-there, begins-there, past-there}
+use Rattle.chart_read.specs.Reading.{SoFar, withBody, refusing, nodeBodyRefusal, linkBodyRefusal, questionBodyRefusal, bodyRefusal, fieldRefusal, refusedAt, readChartOf}
+use Rattle.chart_read.proofs.Fields.{refusal-there, held-there, begins-there, past-there}
 use Rattle.chart_read.proofs.Walking.{heldPast, Reaches, reach-next, reach-refused}
 use Rattle.chart_write.specs.Writing.{nodeBody, onByte, linkBody, questionBody, tidyNode}
 use Rattle.chart_write.proofs.Laws.{length-node-body}
-use Rattle.chart_write.proofs.Agree.{tidy-number}
+use Rattle.chart_write.proofs.Agree.{tidy-refusal}
 
 -- ---- each body, read back
 
@@ -52,17 +52,17 @@ node-back n =
     λ i. record { station = s i; length = k i; label = r i }
 
 -- a label of more than 24 bytes is refused by the length of its field, as by its own number
-pub node-number-back : (late : Bool) (ns : Nodes) (n : ChartNode) → nodeBodyNumber (nodeNumber late ns) (nodeBody n) ≡ nodeNumber late ns n
-unfolding nodeBodyNumber
-node-number-back late ns n =
+pub node-refusal-back : (late : Bool) (ns : Nodes) (n : ChartNode) → nodeBodyRefusal (nodeRefusal late ns) (nodeBody n) ≡ nodeRefusal late ns n
+unfolding nodeBodyRefusal
+node-refusal-back late ns n =
     rw (le-ltb (length (nodeBody n)) 3 (omega (arith, length-node-body n)))
-    (by (ltb 24 (n .length)) refl (ap (nodeNumber late ns) (node-back n) ∙ tidy-number late ns n))
+    (by (ltb 24 (n .length)) refl (ap (nodeRefusal late ns) (node-back n) ∙ tidy-refusal late ns n))
   where
-    by : (b : Bool) → ltb 24 (n .length) ≡ b → nodeNumber late ns (nodeIn (nodeBody n)) ≡ nodeNumber late ns n
-        → refuse 23 (ltb 27 (length (nodeBody n))) (nodeNumber late ns (nodeIn (nodeBody n))) ≡ nodeNumber late ns n
+    by : (b : Bool) → ltb 24 (n .length) ≡ b → nodeRefusal late ns (nodeIn (nodeBody n)) ≡ nodeRefusal late ns n
+        → refuse 23 (ltb 27 (length (nodeBody n))) (nodeRefusal late ns (nodeIn (nodeBody n))) ≡ nodeRefusal late ns n
     by true h e =
         let l : 24 < n .length = ltb-true 24 (n .length) h in
-        rw (lt-ltb 27 (length (nodeBody n)) (omega (arith, length-node-body n))) (unfold nodeNumber nodeBy in rw h refl)
+        rw (lt-ltb 27 (length (nodeBody n)) (omega (arith, length-node-body n))) (unfold nodeRefusal nodeRefusalBy in rw h refl)
     by false h e =
         let l : n .length ≤ 24 = ltb-false 24 (n .length) h in
         rw (le-ltb 27 (length (nodeBody n)) (omega (arith, length-node-body n))) e
@@ -86,29 +86,29 @@ link-back l =
       on = on-back (l .on) i;
     }
 
-pub link-number-back : (number : Link → ℕ) (l : Link) → linkBodyNumber number (linkBody l) ≡ number l
-unfolding linkBodyNumber
-link-number-back number l =
+pub link-refusal-back : (refusal : Link → ℕ) (l : Link) → linkBodyRefusal refusal (linkBody l) ≡ refusal l
+unfolding linkBodyRefusal
+link-refusal-back refusal l =
     let e : getD (linkBody l) 8 0 ≡ onByte (l .on) = unfold linkBody in refl in
     let n : length (linkBody l) ≡ 9 = unfold linkBody in refl in
-    rw (n, e, on-small (l .on)) (ap number (link-back l))
+    rw (n, e, on-small (l .on)) (ap refusal (link-back l))
 
 pub question-back : (from to : Station) → (stationIn (questionBody from to) 0 ≡ from) × (stationIn (questionBody from to) 3 ≡ to)
 unfolding questionBody
 question-back from to = (station-back from (stationBytes to), station-back to [])
 
-pub question-number-back : (number : Station → Station → ℕ) (from to : Station) → questionBodyNumber number (questionBody from to) ≡ number from to
-unfolding questionBodyNumber
-question-number-back number from to =
+pub question-refusal-back : (refusal : Station → Station → ℕ) (from to : Station) → questionBodyRefusal refusal (questionBody from to) ≡ refusal from to
+unfolding questionBodyRefusal
+question-refusal-back refusal from to =
     let n : length (questionBody from to) ≡ 6 = unfold questionBody in refl in
     let q = question-back from to in
-    rw n (ap₂ number (q .0) (q .1))
+    rw n (ap₂ refusal (q .0) (q .1))
 
 -- ---- a run of fields, one after the other
 
 module _ {A : Type 0} (tag : ℕ) (body : A → List ℕ) (field : A → List ℕ) (is : (x : A) → field x ≡ tagged tag (body x))
     (d : ℕ → A) (n : ℕ) (S : ℕ → SoFar) (num : ℕ → ℕ) (pre post : List ℕ)
-    (number : (i : ℕ) → i < n → bodyNumber (refusing (S i)) tag (body (d i)) ≡ num i)
+    (refusal : (i : ℕ) → i < n → bodyRefusal (refusing (S i)) tag (body (d i)) ≡ num i)
     (held : (i : ℕ) → i < n → withBody (S i) tag (body (d i)) ≡ S (i + 1)) where
   abbrev input : List ℕ
   input = pre ++ (joined field d n ++ post)
@@ -128,12 +128,12 @@ module _ {A : Type 0} (tag : ℕ) (body : A → List ℕ) (field : A → List �
             ∙ ap (λ (x : List ℕ). (pre ++ F) ++ (x ++ (r .0 ++ post))) (is (d i)),
       )
 
-  number-here : (i : ℕ) → i < n → fieldNumber (refusing (S i)) input (placeOf i) ≡ num i
-  number-here i h =
+  refusal-here : (i : ℕ) → i < n → fieldRefusal (refusing (S i)) input (placeOf i) ≡ num i
+  refusal-here i h =
       let a = around i h in
-      ap (λ (b : List ℕ). fieldNumber (refusing (S i)) b (placeOf i)) (a .1)
-      ∙ number-there (pre ++ joined field d i) tag (body (d i)) (a .0) (refusing (S i))
-      ∙ number i h
+      ap (λ (b : List ℕ). fieldRefusal (refusing (S i)) b (placeOf i)) (a .1)
+      ∙ refusal-there (pre ++ joined field d i) tag (body (d i)) (a .0) (refusing (S i))
+      ∙ refusal i h
 
   held-here : (i : ℕ) → i < n → heldPast (S i) input (placeOf i) ≡ S (i + 1)
   held-here i h =
@@ -153,20 +153,20 @@ module _ {A : Type 0} (tag : ℕ) (body : A → List ℕ) (field : A → List �
       ∙ ap length (ap (λ (x : List ℕ). (pre ++ joined field d i) ++ x) (sym (is (d i))) ∙ append-assoc pre (joined field d i) (field (d i)) ∙ ap (λ (x : List ℕ). pre ++ x) (sym (joined-next field d i)))
 
   -- all before place i are taken
-  pub run-reaches : Reaches input (S 0) (placeOf 0) → (i : ℕ) → i ≤ n → firstNumber num i ≡ 0 → Reaches input (S i) (placeOf i)
+  pub run-reaches : Reaches input (S 0) (placeOf 0) → (i : ℕ) → i ≤ n → firstRefusalBelow num i ≡ 0 → Reaches input (S i) (placeOf i)
   run-reaches r zero h z = r
   run-reaches r (suc i) h z =
-      let p : (firstNumber num i ≡ 0) × (num i ≡ 0) = unfold firstNumber in or-pass (firstNumber num i) (num i) z in
+      let p : (firstRefusalBelow num i ≡ 0) × (num i ≡ 0) = unfold firstRefusalBelow in or-pass (firstRefusalBelow num i) (num i) z in
       let l : i < n = omega arith in
-      let g = reach-next input (S i) (placeOf i) (begins-here i l) (run-reaches r i (omega arith) (p .0)) (number-here i l ∙ p .1) in
+      let g = reach-next input (S i) (placeOf i) (begins-here i l) (run-reaches r i (omega arith) (p .0)) (refusal-here i l ∙ p .1) in
       subst (λ (t : SoFar). Reaches input t (placeOf (suc i))) (held-here i l ∙ ap S (add-one i))
       (subst (λ (a : ℕ). Reaches input (heldPast (S i) input (placeOf i)) a) (past-here i l ∙ ap placeOf (add-one i)) g)
 
   -- the first bad one decides
-  pub run-refused : Reaches input (S 0) (placeOf 0) → (b : FirstBad num n) → chartReadOf input ≡ refusedAt (firstNumber num n) (placeOf (b .place))
+  pub run-refused : Reaches input (S 0) (placeOf 0) → (b : FirstBad num n) → readChartOf input ≡ refusedAt (firstRefusalBelow num n) (placeOf (b .place))
   run-refused r b =
       let i = b .place in
       let l = b .below in
-      let k = number-here i l in
+      let k = refusal-here i l in
       sym (ap (λ (m : ℕ). refusedAt m (placeOf i)) (b .same ∙ sym k)
       ∙ reach-refused input (S i) (placeOf i) (begins-here i l) (run-reaches r i (omega (arith, l)) (b .before)) (λ z. b .bad (sym k ∙ z)))

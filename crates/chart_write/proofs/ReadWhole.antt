@@ -8,7 +8,7 @@ use native.Mathlib.Omega.{arith}
 use lib.ListN.{length, set, replicate, length-append}
 use Rattle.lists.specs.Places.{elementAt, row, joined}
 use Rattle.lists.specs.Refusals.{orElse}
-use Rattle.lists.specs.Chains.{firstNumber}
+use Rattle.lists.specs.Chains.{firstRefusalBelow}
 use Rattle.lists.proofs.Places.{row-at, row-none, row-next, joined-none}
 use Rattle.lists.proofs.Chains.{first-bad}
 use Rattle.chart.specs.declared.ChartNode.{ChartNode}
@@ -16,14 +16,14 @@ use Rattle.chart.specs.declared.Nodes.{Nodes}
 use Rattle.chart.specs.declared.Links.{Links}
 use Rattle.chart.specs.declared.Chart.{Chart}
 use Rattle.chart.specs.Values.{noStation, noNode, noLink, noChart, nodeAt, linkAt}
-use Rattle.chart.specs.Numbers.{questionNumber}
+use Rattle.chart.specs.Refusals.{questionRefusal}
 use Rattle.chart_read.specs.declared.ChartRead.{ChartRead}
-use Rattle.chart_read.specs.Reading.{SoFar, nothing, withNode, withLink, withQuestion, withBody, nodeLate, refusing, bodyNumber, refusedAt, chartReadOf}
+use Rattle.chart_read.specs.Reading.{SoFar, nothing, withNode, withLink, withQuestion, withBody, nodeLate, refusing, bodyRefusal, refusedAt, readChartOf}
 use Rattle.chart_read.proofs.Walking.{Reaches, reach-start, reach-end}
-use Rattle.chart_numbers.specs.Numbers.{nodesBefore, linksBefore, nodeNumberAt, linkNumberAt, valuesNumber}
+use Rattle.chart_refuse.specs.Refusal.{nodesBefore, linksBefore, nodeRefusalAt, linkRefusalAt, chartValuesRefusal}
 use Rattle.chart_write.specs.Writing.{nodeBody, linkBody, questionBody, nodeField, linkField, questionField, chartBytes, tidyNode, tidyAt, tidy}
 use Rattle.chart_write.proofs.Agree.{SameNodes, SameLinks, node-agree, link-agree, question-agree}
-use Rattle.chart_write.proofs.ReadBack.{node-back, link-back, question-back, node-number-back, link-number-back, question-number-back, run-reaches, run-refused}
+use Rattle.chart_write.proofs.ReadBack.{node-back, link-back, question-back, node-refusal-back, link-refusal-back, question-refusal-back, run-reaches, run-refused}
 
 -- what is held after the first i nodes, and after all nodes and the first i links
 unfoldable heldNodes : Nodes → ℕ → SoFar
@@ -120,28 +120,28 @@ same-links ls i = record { count = refl; links = λ j h. sym (row-at 48 noLink (
 
 -- ---- the numbers of the three runs, and what is then held
 
-node-number : (ns : Nodes) (i : ℕ) → bodyNumber (refusing (heldNodes ns i)) 1 (nodeBody (nodeAt ns i)) ≡ nodeNumberAt ns i
-unfolding bodyNumber refusing heldNodes nodeLate nodeNumberAt
-node-number ns i = node-number-back false _ (nodeAt ns i) ∙ node-agree _ _ (same-nodes ns i) false (nodeAt ns i)
+node-refusal : (ns : Nodes) (i : ℕ) → bodyRefusal (refusing (heldNodes ns i)) 1 (nodeBody (nodeAt ns i)) ≡ nodeRefusalAt ns i
+unfolding bodyRefusal refusing heldNodes nodeLate nodeRefusalAt
+node-refusal ns i = node-refusal-back false _ (nodeAt ns i) ∙ node-agree _ _ (same-nodes ns i) false (nodeAt ns i)
 
 node-held : (ns : Nodes) (i : ℕ) → i < 16 → withBody (heldNodes ns i) 1 (nodeBody (nodeAt ns i)) ≡ heldNodes ns (i + 1)
 unfolding withBody
 node-held ns i h = ap (withNode (heldNodes ns i)) (node-back (nodeAt ns i)) ∙ nodes-next ns i h
 
-link-number : (c : Chart) (i : ℕ) → bodyNumber (refusing (heldLinks c i)) 2 (linkBody (linkAt (c .links) i)) ≡ linkNumberAt (c .nodes) (c .links) i
-unfolding bodyNumber refusing heldLinks linkNumberAt
-link-number c i =
-    link-number-back _ (linkAt (c .links) i)
+link-refusal : (c : Chart) (i : ℕ) → bodyRefusal (refusing (heldLinks c i)) 2 (linkBody (linkAt (c .links) i)) ≡ linkRefusalAt (c .nodes) (c .links) i
+unfolding bodyRefusal refusing heldLinks linkRefusalAt
+link-refusal c i =
+    link-refusal-back _ (linkAt (c .links) i)
     ∙ link-agree _ _ (same-nodes (c .nodes) (c .nodes .count)) _ _ (same-links (c .links) i) false (linkAt (c .links) i)
 
 link-held : (c : Chart) (i : ℕ) → i < 48 → withBody (heldLinks c i) 2 (linkBody (linkAt (c .links) i)) ≡ heldLinks c (i + 1)
 unfolding withBody
 link-held c i h = ap (withLink (heldLinks c i)) (link-back (linkAt (c .links) i)) ∙ links-next c i h
 
-question-number : (c : Chart) → bodyNumber (refusing (heldLinks c (c .links .count))) 3 (questionBody (c .from) (c .to)) ≡ questionNumber false (c .nodes) (c .from) (c .to)
-unfolding bodyNumber refusing heldLinks
-question-number c =
-    question-number-back _ (c .from) (c .to)
+question-refusal : (c : Chart) → bodyRefusal (refusing (heldLinks c (c .links .count))) 3 (questionBody (c .from) (c .to)) ≡ questionRefusal false (c .nodes) (c .from) (c .to)
+unfolding bodyRefusal refusing heldLinks
+question-refusal c =
+    question-refusal-back _ (c .from) (c .to)
     ∙ question-agree _ _ (same-nodes (c .nodes) (c .nodes .count)) false (c .from) (c .to)
 
 question-held : (c : Chart) → withBody (heldLinks c (c .links .count)) 3 (questionBody (c .from) (c .to)) ≡ record { chart = tidy c; asked = true }
@@ -163,13 +163,13 @@ module _ (c : Chart) (few-nodes : c .nodes .count ≤ 16) (few-links : c .links 
   Q = questionField (c .from) (c .to)
 
   abbrev nodeNum : ℕ → ℕ
-  nodeNum = nodeNumberAt (c .nodes)
+  nodeNum = nodeRefusalAt (c .nodes)
 
   abbrev linkNum : ℕ → ℕ
-  linkNum = linkNumberAt (c .nodes) (c .links)
+  linkNum = linkRefusalAt (c .nodes) (c .links)
 
   abbrev questionNum : ℕ → ℕ
-  questionNum i = questionNumber false (c .nodes) (c .from) (c .to)
+  questionNum i = questionRefusal false (c .nodes) (c .from) (c .to)
 
   -- the question as a run of one
   question-field : Chart → List ℕ
@@ -177,42 +177,42 @@ module _ (c : Chart) (few-nodes : c .nodes .count ≤ 16) (few-links : c .links 
 
   -- how a reading ends: at some place with this number, or with the chart
   abbrev Ends : ℕ → Type 0
-  Ends k = (chartReadOf (chartBytes c) .number ≡ k) × (k ≡ 0 → chartReadOf (chartBytes c) ≡ record { number = 0; place = 0; chart = tidy c })
+  Ends k = (readChartOf (chartBytes c) .refusal ≡ k) × (k ≡ 0 → readChartOf (chartBytes c) ≡ record { refusal = 0; place = 0; chart = tidy c })
 
-  refused-ends : (k place : ℕ) → (k ≡ 0 → ⊥) → chartReadOf (chartBytes c) ≡ refusedAt k place → Ends k
-  refused-ends k place h e = (ap (λ (r : ChartRead). r .number) e, λ z. absurd (h z))
+  refused-ends : (k place : ℕ) → (k ≡ 0 → ⊥) → readChartOf (chartBytes c) ≡ refusedAt k place → Ends k
+  refused-ends k place h e = (ap (λ (r : ChartRead). r .refusal) e, λ z. absurd (h z))
 
   nodes-reached : Reaches (chartBytes c) (heldNodes (c .nodes) 0) (length (joined nodeField (nodeAt (c .nodes)) 0))
   nodes-reached =
       subst (λ (s : SoFar). Reaches (chartBytes c) s (length (joined nodeField (nodeAt (c .nodes)) 0))) (nodes-start (c .nodes))
       (subst (λ (l : List ℕ). Reaches (chartBytes c) nothing (length l)) (sym (joined-none nodeField (nodeAt (c .nodes)))) (reach-start (chartBytes c)))
 
-  links-reached : firstNumber nodeNum (c .nodes .count) ≡ 0 → Reaches (chartBytes c) (heldLinks c 0) (length (N ++ joined linkField (linkAt (c .links)) 0))
+  links-reached : firstRefusalBelow nodeNum (c .nodes .count) ≡ 0 → Reaches (chartBytes c) (heldLinks c 0) (length (N ++ joined linkField (linkAt (c .links)) 0))
   unfolding chartBytes nodeField
   links-reached z =
       subst (λ (s : SoFar). Reaches (chartBytes c) s (length (N ++ joined linkField (linkAt (c .links)) 0))) (links-start c)
       (subst (λ (l : List ℕ). Reaches (chartBytes c) (heldNodes (c .nodes) (c .nodes .count)) (length l))
       (sym (append-nil N) ∙ ap (λ (l : List ℕ). N ++ l) (sym (joined-none linkField (linkAt (c .links)))))
       (run-reaches 1 nodeBody nodeField (λ x. refl) (nodeAt (c .nodes)) (c .nodes .count) (heldNodes (c .nodes)) nodeNum [] (L ++ Q)
-      (λ i h. node-number (c .nodes) i) (λ i h. node-held (c .nodes) i (omega arith)) nodes-reached (c .nodes .count) (le-refl (c .nodes .count)) z))
+      (λ i h. node-refusal (c .nodes) i) (λ i h. node-held (c .nodes) i (omega arith)) nodes-reached (c .nodes .count) (le-refl (c .nodes .count)) z))
 
   question-input : chartBytes c ≡ (N ++ L) ++ (joined question-field (λ i. c) 1 ++ [])
   unfolding chartBytes question-field joined
   question-input = sym (append-assoc N L Q) ∙ ap (λ (x : List ℕ). (N ++ L) ++ x) (sym (append-nil Q))
 
-  question-reached : firstNumber nodeNum (c .nodes .count) ≡ 0 → firstNumber linkNum (c .links .count) ≡ 0
+  question-reached : firstRefusalBelow nodeNum (c .nodes .count) ≡ 0 → firstRefusalBelow linkNum (c .links .count) ≡ 0
       → Reaches (chartBytes c) (heldAll c 0) (length ((N ++ L) ++ joined question-field (λ i. c) 0))
   unfolding chartBytes linkField heldAll
   question-reached z y =
       subst (λ (l : List ℕ). Reaches (chartBytes c) (heldLinks c (c .links .count)) (length l))
       (sym (append-nil (N ++ L)) ∙ ap (λ (l : List ℕ). (N ++ L) ++ l) (sym (joined-none question-field (λ i. c))))
       (run-reaches 2 linkBody linkField (λ x. refl) (linkAt (c .links)) (c .links .count) (heldLinks c) linkNum N Q
-      (λ i h. link-number c i) (λ i h. link-held c i (omega arith)) (links-reached z) (c .links .count) (le-refl (c .links .count)) y)
+      (λ i h. link-refusal c i) (λ i h. link-held c i (omega arith)) (links-reached z) (c .links .count) (le-refl (c .links .count)) y)
 
-  one-number : (i : ℕ) → i < 1 → bodyNumber (refusing (heldAll c i)) 3 (questionBody (c .from) (c .to)) ≡ questionNum i
+  one-refusal : (i : ℕ) → i < 1 → bodyRefusal (refusing (heldAll c i)) 3 (questionBody (c .from) (c .to)) ≡ questionNum i
   unfolding heldAll
-  one-number zero h = question-number c
-  one-number (suc i) h = absurd (omega arith)
+  one-refusal zero h = question-refusal c
+  one-refusal (suc i) h = absurd (omega arith)
 
   one-held : (i : ℕ) → i < 1 → withBody (heldAll c i) 3 (questionBody (c .from) (c .to)) ≡ heldAll c (i + 1)
   unfolding heldAll
@@ -220,50 +220,50 @@ module _ (c : Chart) (few-nodes : c .nodes .count ≤ 16) (few-links : c .links 
   one-held (suc i) h = absurd (omega arith)
 
   -- the three runs in order
-  nodes-end : (firstNumber nodeNum (c .nodes .count) ≡ 0 → ⊥) → Ends (firstNumber nodeNum (c .nodes .count))
+  nodes-end : (firstRefusalBelow nodeNum (c .nodes .count) ≡ 0 → ⊥) → Ends (firstRefusalBelow nodeNum (c .nodes .count))
   unfolding chartBytes nodeField
   nodes-end h =
       let b = first-bad nodeNum (c .nodes .count) h in
       refused-ends _ _ h
       (run-refused 1 nodeBody nodeField (λ x. refl) (nodeAt (c .nodes)) (c .nodes .count) (heldNodes (c .nodes)) nodeNum [] (L ++ Q)
-      (λ i l. node-number (c .nodes) i) (λ i l. node-held (c .nodes) i (omega arith)) nodes-reached b)
+      (λ i l. node-refusal (c .nodes) i) (λ i l. node-held (c .nodes) i (omega arith)) nodes-reached b)
 
-  links-end : firstNumber nodeNum (c .nodes .count) ≡ 0 → (firstNumber linkNum (c .links .count) ≡ 0 → ⊥) → Ends (firstNumber linkNum (c .links .count))
+  links-end : firstRefusalBelow nodeNum (c .nodes .count) ≡ 0 → (firstRefusalBelow linkNum (c .links .count) ≡ 0 → ⊥) → Ends (firstRefusalBelow linkNum (c .links .count))
   unfolding chartBytes linkField
   links-end z h =
       let b = first-bad linkNum (c .links .count) h in
       refused-ends _ _ h
       (run-refused 2 linkBody linkField (λ x. refl) (linkAt (c .links)) (c .links .count) (heldLinks c) linkNum N Q
-      (λ i l. link-number c i) (λ i l. link-held c i (omega arith)) (links-reached z) b)
+      (λ i l. link-refusal c i) (λ i l. link-held c i (omega arith)) (links-reached z) b)
 
-  question-end : firstNumber nodeNum (c .nodes .count) ≡ 0 → firstNumber linkNum (c .links .count) ≡ 0 → (k : ℕ) → questionNum 0 ≡ k → Ends k
+  question-end : firstRefusalBelow nodeNum (c .nodes .count) ≡ 0 → firstRefusalBelow linkNum (c .links .count) ≡ 0 → (k : ℕ) → questionNum 0 ≡ k → Ends k
   unfolding questionField question-field
   question-end z y (suc k) e =
-      let first : firstNumber questionNum 1 ≡ suc k = unfold firstNumber in e in
-      let bad : firstNumber questionNum 1 ≡ 0 → ⊥ = λ x. absurd (let w : suc k ≡ 0 = sym first ∙ x in omega arith) in
+      let first : firstRefusalBelow questionNum 1 ≡ suc k = unfold firstRefusalBelow in e in
+      let bad : firstRefusalBelow questionNum 1 ≡ 0 → ⊥ = λ x. absurd (let w : suc k ≡ 0 = sym first ∙ x in omega arith) in
       let b = first-bad questionNum 1 bad in
       let input = question-input in
       subst Ends first
-      (refused-ends (firstNumber questionNum 1) _ bad
-      (ap chartReadOf input
+      (refused-ends (firstRefusalBelow questionNum 1) _ bad
+      (ap readChartOf input
       ∙ run-refused 3 (λ (x : Chart). questionBody (x .from) (x .to)) question-field (λ x. refl) (λ i. c) 1 (heldAll c) questionNum (N ++ L) []
-      one-number one-held (subst (λ (l : List ℕ). Reaches l (heldAll c 0) (length ((N ++ L) ++ joined question-field (λ i. c) 0))) input (question-reached z y)) b))
+      one-refusal one-held (subst (λ (l : List ℕ). Reaches l (heldAll c 0) (length ((N ++ L) ++ joined question-field (λ i. c) 0))) input (question-reached z y)) b))
   question-end z y zero e =
       let input = question-input in
-      let first : firstNumber questionNum 1 ≡ 0 = unfold firstNumber in e in
+      let first : firstRefusalBelow questionNum 1 ≡ 0 = unfold firstRefusalBelow in e in
       let r = run-reaches 3 (λ (x : Chart). questionBody (x .from) (x .to)) question-field (λ x. refl) (λ i. c) 1 (heldAll c) questionNum (N ++ L) []
-      one-number one-held (subst (λ (l : List ℕ). Reaches l (heldAll c 0) (length ((N ++ L) ++ joined question-field (λ i. c) 0))) input (question-reached z y)) 1 (le-refl 1) first in
-      let end : chartReadOf (chartBytes c) ≡ record { number = 0; place = 0; chart = tidy c } =
-      ap chartReadOf input ∙ sym (reach-end _ _ _ (omega (arith, length-append (N ++ L) (joined question-field (λ i. c) 1 ++ []), ap length (append-nil (joined question-field (λ i. c) 1)), length-append (N ++ L) (joined question-field (λ i. c) 1))) r)
+      one-refusal one-held (subst (λ (l : List ℕ). Reaches l (heldAll c 0) (length ((N ++ L) ++ joined question-field (λ i. c) 0))) input (question-reached z y)) 1 (le-refl 1) first in
+      let end : readChartOf (chartBytes c) ≡ record { refusal = 0; place = 0; chart = tidy c } =
+      ap readChartOf input ∙ sym (reach-end _ _ _ (omega (arith, length-append (N ++ L) (joined question-field (λ i. c) 1 ++ []), ap length (append-nil (joined question-field (λ i. c) 1)), length-append (N ++ L) (joined question-field (λ i. c) 1))) r)
       ∙ (unfold heldAll in refl) in
-      (ap (λ (x : ChartRead). x .number) end, λ w. end)
+      (ap (λ (x : ChartRead). x .refusal) end, λ w. end)
 
   -- the reader's number on the chart's bytes is the chart's own; where that is 0, the chart is read back
-  pub read-written : Ends (valuesNumber c)
-  unfolding valuesNumber
-  read-written = by (firstNumber nodeNum (c .nodes .count)) refl (firstNumber linkNum (c .links .count)) refl
+  pub read-written : Ends (chartValuesRefusal c)
+  unfolding chartValuesRefusal
+  read-written = by (firstRefusalBelow nodeNum (c .nodes .count)) refl (firstRefusalBelow linkNum (c .links .count)) refl
     where
-      by : (a : ℕ) → firstNumber nodeNum (c .nodes .count) ≡ a → (b : ℕ) → firstNumber linkNum (c .links .count) ≡ b → Ends (orElse a (orElse b (questionNum 0)))
+      by : (a : ℕ) → firstRefusalBelow nodeNum (c .nodes .count) ≡ a → (b : ℕ) → firstRefusalBelow linkNum (c .links .count) ≡ b → Ends (orElse a (orElse b (questionNum 0)))
       by (suc a) e b f = subst Ends e (nodes-end (λ z. absurd (let w : suc a ≡ 0 = sym e ∙ z in omega arith)))
       by zero e (suc b) f = subst Ends f (links-end e (λ z. absurd (let w : suc b ≡ 0 = sym f ∙ z in omega arith)))
       by zero e zero f = question-end e f (questionNum 0) refl

@@ -9,22 +9,22 @@ use lib.ListN.{length, take, drop, getD, set, length-set, length-drop, length-ap
 use lib.Seq.{take-all, getD-set-same, getD-set-other, getD-drop, length-take-le}
 use lib.Dec.{ltb, leb, eqb}
 use borrow.Author.Tests.{ltb-false, leb-true, leb-false, eqb-true}
-use Rattle.lists.specs.Bytes.{Bytes}
+use Rattle.buffer.specs.Bytes.{Bytes}
 use Rattle.lists.specs.Places.{elementAt, firsts, row, joined}
 use Rattle.lists.proofs.Bools.{or-neither-of}
 use Rattle.lists.proofs.Places.{firsts-agree, row-at, joined-none}
 use Rattle.lists.proofs.Runs.{firsts-take, joined-set, joined-most}
 use Rattle.address.specs.declared.Station.{Station}
-use Rattle.address.specs.Wide.{stationIn}
+use Rattle.address_bytes.specs.Wide.{stationIn}
 use Rattle.chart.specs.declared.ChartNode.{ChartNode}
 use Rattle.chart.specs.declared.Link.{Link}
 use Rattle.chart.specs.declared.Chart.{Chart}
 use Rattle.chart.specs.Values.{noChart, noNode, noLink, nodeAt, linkAt}
-use Rattle.chart.specs.Numbers.{nodeNumber, linkNumber, questionNumber}
+use Rattle.chart.specs.Refusals.{nodeRefusal, linkRefusal, questionRefusal}
 use Rattle.chart.proofs.Laws.{node-passed, link-passed, question-passed}
 use Rattle.chart_read.specs.declared.ChartRead.{ChartRead}
 use Rattle.chart_read.specs.Fields.{tagged, tagAt, bodyAt, pastField, bytesFrom, nodeIn, linkIn}
-use Rattle.chart_read.specs.Reading.{SoFar, nothing, withNode, withLink, withQuestion, withBody, nodeLate, refusing, nodeBodyNumber, linkBodyNumber, questionBodyNumber, bodyNumber, fieldNumber, refusedAt, atEnd, onward, walk, chartReadOf}
+use Rattle.chart_read.specs.Reading.{SoFar, nothing, withNode, withLink, withQuestion, withBody, nodeLate, refusing, nodeBodyRefusal, linkBodyRefusal, questionBodyRefusal, bodyRefusal, fieldRefusal, refusedAt, atEnd, onward, walk, readChartOf}
 use Rattle.chart_read.proofs.Laws.{with-node, with-link, with-question, node-zero, link-zero, question-tag, question-zero, node-bounds, link-bounds, question-bounds, whole, body-zero}
 use Rattle.chart_read.proofs.Fields.{high-back, low-back, three-on, field-there, bytes-body}
 use Rattle.chart_read.proofs.Walking.{heldPast, turn, walk-end}
@@ -114,7 +114,7 @@ set-short l k n w m o i h = go (decLt i k)
         let e : k ≡ i = omega arith in
         subst (λ (x : ChartNode). x .length ≤ 24) (sym (ap (λ (j : ℕ). getD (set l k n) j noNode) (sym e) ∙ getD-set-same l k n noNode w)) m
 
-node-grown : (s : SoFar) (n : ChartNode) → Kept s → nodeNumber (nodeLate s) (s .chart .nodes) n ≡ 0 → Grown s (withNode s n) (nodeField n)
+node-grown : (s : SoFar) (n : ChartNode) → Kept s → nodeRefusal (nodeLate s) (s .chart .nodes) n ≡ 0 → Grown s (withNode s n) (nodeField n)
 unfolding heldBytes withNode nodeLate nodeAt
 node-grown s n k z =
     let p = node-passed (nodeLate s) (s .chart .nodes) n z in
@@ -139,7 +139,7 @@ node-grown s n k z =
       },
     )
 
-link-grown : (s : SoFar) (l : Link) → Kept s → linkNumber (s .asked) (s .chart .nodes) (s .chart .links) l ≡ 0 → Grown s (withLink s l) (linkField l)
+link-grown : (s : SoFar) (l : Link) → Kept s → linkRefusal (s .asked) (s .chart .nodes) (s .chart .links) l ≡ 0 → Grown s (withLink s l) (linkField l)
 unfolding heldBytes withLink linkAt
 link-grown s l k z =
     let p = link-passed (s .asked) (s .chart .nodes) (s .chart .links) l z in
@@ -163,7 +163,7 @@ link-grown s l k z =
       },
     )
 
-question-grown : (s : SoFar) (from to : Station) → Kept s → questionNumber (s .asked) (s .chart .nodes) from to ≡ 0 → Grown s (withQuestion s from to) (questionField from to)
+question-grown : (s : SoFar) (from to : Station) → Kept s → questionRefusal (s .asked) (s .chart .nodes) from to ≡ 0 → Grown s (withQuestion s from to) (questionField from to)
 unfolding heldBytes withQuestion
 question-grown s from to k z =
     let p = question-passed (s .asked) (s .chart .nodes) from to z in
@@ -181,26 +181,26 @@ question-grown s from to k z =
 grown-as : (s : SoFar) {a b : SoFar} {f g : List ℕ} → a ≡ b → f ≡ g → Grown s b g → Grown s a f
 grown-as s e p r = subst₂ (λ (x : SoFar) (y : List ℕ). Grown s x y) (sym e) (sym p) r
 
-node-step : (s : SoFar) (b : List ℕ) → Kept s → Bytes b → nodeBodyNumber (refusing s .node) b ≡ 0 → Grown s (withNode s (nodeIn b)) (tagged 1 b)
+node-step : (s : SoFar) (b : List ℕ) → Kept s → Bytes b → nodeBodyRefusal (refusing s .node) b ≡ 0 → Grown s (withNode s (nodeIn b)) (tagged 1 b)
 unfolding nodeField refusing
 node-step s b k m z =
     let p = node-bounds (refusing s .node) b z in
     grown-as s refl (sym (ap (tagged 1) (node-body-back b m (p .0)))) (node-grown s (nodeIn b) k (p .2))
 
-link-step : (s : SoFar) (b : List ℕ) → Kept s → Bytes b → linkBodyNumber (refusing s .link) b ≡ 0 → Grown s (withLink s (linkIn b)) (tagged 2 b)
+link-step : (s : SoFar) (b : List ℕ) → Kept s → Bytes b → linkBodyRefusal (refusing s .link) b ≡ 0 → Grown s (withLink s (linkIn b)) (tagged 2 b)
 unfolding linkField refusing
 link-step s b k m z =
     let p = link-bounds (refusing s .link) b z in
     grown-as s refl (sym (ap (tagged 2) (link-body-back b m (p .0) (p .1)))) (link-grown s (linkIn b) k (p .2))
 
-question-step : (s : SoFar) (b : List ℕ) → Kept s → Bytes b → questionBodyNumber (refusing s .question) b ≡ 0
+question-step : (s : SoFar) (b : List ℕ) → Kept s → Bytes b → questionBodyRefusal (refusing s .question) b ≡ 0
     → Grown s (withQuestion s (stationIn b 0) (stationIn b 3)) (tagged 3 b)
 unfolding questionField refusing
 question-step s b k m z =
     let p = question-bounds (refusing s .question) b z in
     grown-as s refl (sym (ap (tagged 3) (question-body-back b m (p .0)))) (question-grown s (stationIn b 0) (stationIn b 3) k (p .1))
 
-body-step : (s : SoFar) (tag : ℕ) (b : List ℕ) → Kept s → Bytes b → bodyNumber (refusing s) tag b ≡ 0 → Grown s (withBody s tag b) (tagged tag b)
+body-step : (s : SoFar) (tag : ℕ) (b : List ℕ) → Kept s → Bytes b → bodyRefusal (refusing s) tag b ≡ 0 → Grown s (withBody s tag b) (tagged tag b)
 body-step s tag b k m z = by (eqb tag 1) (eqb tag 2) refl refl
   where
     by : (x y : Bool) → eqb tag 1 ≡ x → eqb tag 2 ≡ y → Grown s (withBody s tag b) (tagged tag b)
@@ -250,13 +250,13 @@ module _ (bytes : List ℕ) (small : Bytes bytes) where
     pub few-links : c .links .count ≤ 48
 
   pub record Good (r : ChartRead) : Type 0 where
-    pub undone : r .number ≡ 0 → Undone (r .chart)
+    pub undone : r .refusal ≡ 0 → Undone (r .chart)
     pub near : r .place ≤ 1065
 
   place-small : (s : SoFar) (at : ℕ) → Holds s at → at ≤ 1065
   place-small s at H = omega (arith, held-small s (H .kept), ap length (H .passed), length-take-le at bytes (H .within))
 
-  holds-next : (s : SoFar) (at : ℕ) → Holds s at → fieldNumber (refusing s) bytes at ≡ 0 → Holds (heldPast s bytes at) (pastField bytes at)
+  holds-next : (s : SoFar) (at : ℕ) → Holds s at → fieldRefusal (refusing s) bytes at ≡ 0 → Holds (heldPast s bytes at) (pastField bytes at)
   holds-next s at H z =
       let l = whole (refusing s) bytes at z in
       let g = body-step s (tagAt bytes at) (bodyAt bytes at) (H .kept) (bytes-body bytes small at) (body-zero (refusing s) bytes at z) in
@@ -269,7 +269,7 @@ module _ (bytes : List ℕ) (small : Bytes bytes) where
   end-good : (s : SoFar) (at : ℕ) → Holds s at → length bytes ≤ at → Good (atEnd s (length bytes))
   end-good s at H h = by (s .asked) refl
     where
-      by : (b : Bool) → s .asked ≡ b → Good (cond {A = ChartRead} b (record { number = 0; place = 0; chart = s .chart }) (refusedAt 31 (length bytes)))
+      by : (b : Bool) → s .asked ≡ b → Good (cond {A = ChartRead} b (record { refusal = 0; place = 0; chart = s .chart }) (refusedAt 31 (length bytes)))
       by true d = record { undone = λ z. record { same = sym (held-all s d) ∙ H .passed ∙ take-all at bytes h; few-nodes = H .kept .few-nodes; few-links = H .kept .few-links }; near = omega arith }
       by false d = record { undone = λ z. absurd (omega arith); near = omega (arith, place-small s at H) }
 
@@ -282,7 +282,7 @@ module _ (bytes : List ℕ) (small : Bytes bytes) where
       Onward : Type 0
       Onward = (t : SoFar) (a : ℕ) → Holds t a → length bytes ≤ a + k → Good (walk k t bytes a)
 
-      on : Onward → at < length bytes → (n : ℕ) → fieldNumber (refusing s) bytes at ≡ n → Good (onward n at (λ u. walk k (heldPast s bytes at) bytes (pastField bytes at)))
+      on : Onward → at < length bytes → (n : ℕ) → fieldRefusal (refusing s) bytes at ≡ n → Good (onward n at (walk k (heldPast s bytes at) bytes (pastField bytes at)))
       on go l zero e = go (heldPast s bytes at) (pastField bytes at) (holds-next s at H e) (omega arith)
       on go l (suc n) e = record { undone = λ z. absurd (omega arith); near = place-small s at H }
 
@@ -292,11 +292,11 @@ module _ (bytes : List ℕ) (small : Bytes bytes) where
           subst Good (sym (walk-end (suc k) s bytes at g)) (end-good s at H g)
       by go false e =
           let l : at < length bytes = leb-false (length bytes) at e in
-          subst Good (sym (turn k s bytes at l)) (on go l (fieldNumber (refusing s) bytes at) refl)
+          subst Good (sym (turn k s bytes at l)) (on go l (fieldRefusal (refusing s) bytes at) refl)
 
   -- an accepted chart is written as the bytes that it was read from; a refusal's place is small
-  pub read-good : Good (chartReadOf bytes)
-  unfolding chartReadOf
+  pub read-good : Good (readChartOf bytes)
+  unfolding readChartOf
   read-good =
       walk-good (length bytes) nothing 0
       (record { passed = start; within = omega arith; kept = kept })

@@ -1,3 +1,3 @@
 pub mod Writing
-pub mod Storing
+pub mod Contracts
 pub mod Promises

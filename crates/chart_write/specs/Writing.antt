@@ -2,21 +2,21 @@
 use Prim.Native.Nat.{ℕ}
 use mathlib.Core.List.{List, [], _∷_, _++_}
 use mathlib.Core.Bool.{Bool, cond}
-use lib.ListN.{length, drop}
+use lib.ListN.{length}
 use lib.Dec.{ltb}
 use Rattle.lists.specs.Places.{elementAt, firsts, row, joined}
-use Rattle.lists.specs.Refusals.{refuse, orElse, unlessRefused}
-use Rattle.lists.specs.declared.Written.{Written}
-use Rattle.lists.specs.Writing.{wroteUnless}
+use Rattle.lists.specs.Refusals.{refuse, orElse}
+use Rattle.buffer.specs.declared.Written.{Written}
+use Rattle.buffer.specs.Writing.{wroteUnless, lentAfter}
 use Rattle.address.specs.declared.Station.{Station}
-use Rattle.address.specs.Wide.{stationBytes, addressBytes}
+use Rattle.address_bytes.specs.Wide.{stationBytes, addressBytes}
 use Rattle.chart.specs.declared.ChartNode.{ChartNode}
 use Rattle.chart.specs.declared.Link.{Link}
 use Rattle.chart.specs.declared.Nodes.{Nodes}
 use Rattle.chart.specs.declared.Chart.{Chart}
 use Rattle.chart.specs.Values.{mostNodes, mostLinks, longestLabel, noNode, noLink, nodeAt, linkAt}
 use Rattle.chart_read.specs.Fields.{nodeTag, linkTag, questionTag, tagged}
-use Rattle.chart_numbers.specs.Numbers.{chartNumber}
+use Rattle.chart_refuse.specs.Refusal.{chartRefusal}
 
 -- a node's body: its station, and as many bytes of label as it says
 unfoldable pub nodeBody : ChartNode → List ℕ
@@ -52,16 +52,16 @@ chartBytes c =
     ++ questionField (c .from) (c .to))
 
 -- the writer's number: the chart's own, then 10
-unfoldable pub chartRefusal : Chart → ℕ → ℕ
-chartRefusal c room = orElse (chartNumber c) (refuse 10 (ltb room (length (chartBytes c))) 0)
+unfoldable pub chartWriteRefusal : Chart → ℕ → ℕ
+chartWriteRefusal c room = orElse (chartRefusal c) (refuse 10 (ltb room (length (chartBytes c))) 0)
 
 -- the number of bytes written, or the refusal
-unfoldable pub chartWriteOf : Chart → ℕ → Written
-chartWriteOf c room = wroteUnless (chartRefusal c room) (length (chartBytes c))
+unfoldable pub writeChartOf : Chart → ℕ → Written
+writeChartOf c room = wroteUnless (chartWriteRefusal c room) (length (chartBytes c))
 
--- what the buffer then holds: the chart's bytes, and what stood after them; on a refusal what it held
+-- what the buffer then holds
 unfoldable pub chartAfter : Chart → List ℕ → List ℕ
-chartAfter c out = unlessRefused (chartRefusal c (length out)) (chartBytes c ++ drop (length (chartBytes c)) out) out
+chartAfter c out = lentAfter (chartWriteRefusal c (length out)) (chartBytes c) out
 
 -- ---- what a writer does not look at, at zero
 

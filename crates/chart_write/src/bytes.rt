@@ -4,7 +4,7 @@ use chart::ChartNode;
 use chart::Link;
 ghost use mathlib.Core.Path.{_≡_};
 ghost use Rattle.chart_write.specs.Writing.{onByte, linkField, questionField};
-ghost use Rattle.chart_write.specs.Storing.{nodeHead};
+ghost use Rattle.chart_write.specs.Contracts.{nodeHead};
 
 const NODE_TAG: u8 = 1;
 
@@ -40,7 +40,7 @@ fn on_byte(on: bool) -> u8
 }
 
 // A link's field.
-pub fn link_bytes(l: Link) -> [u8; 12]
+pub fn link_field(l: Link) -> [u8; 12]
     ensures { λ r. ⌜ r ≡ linkField l ⌝ }
 {
     let on = on_byte(l.on);
@@ -63,7 +63,7 @@ pub fn link_bytes(l: Link) -> [u8; 12]
 }
 
 // The question's field.
-pub fn question_bytes(from: Station, to: Station) -> [u8; 9]
+pub fn question_field(from: Station, to: Station) -> [u8; 9]
     ensures { λ r. ⌜ r ≡ questionField from to ⌝ }
 {
     let x = from.node.0;

@@ -5,17 +5,15 @@ use mathlib.Core.List.{List}
 use Rattle.lists.specs.Refusals.{unlessRefused}
 use Rattle.lists.proofs.Refusals.{refused}
 use Rattle.ledger_image.specs.Ledger.{ledgerAfter}
-use Rattle.search.specs.declared.Traced.{Traced}
-use Rattle.search.specs.declared.Traced.the-variants.{Route, Refused}
-use Rattle.search.specs.Answers.{Told, told}
-use Rattle.search.proofs.Leading.{never}
-use Rattle.trace.specs.Trace.{traceFirst, traceNext}
-use Rattle.read_door.specs.Image.{imageAfter as frameImage}
-use Rattle.write_door.specs.Image.{frameAfter}
-use Rattle.ledger_door.specs.Calls.{acceptImage, answerImage, tickImage, clearImage}
-use Rattle.chart_read_door.specs.Image.{imageAfter as chartImage}
-use Rattle.chart_write_door.specs.Image.{chartAfterFor}
-use Rattle.trace_door.specs.Routes.{ifRead, firstFor, nextFor}
+use Rattle.route_search.specs.declared.Traced.{Traced}
+use Rattle.route_search.specs.declared.Traced.the-variants.{Route, Refused}
+use Rattle.route_search.specs.Answers.{Told, told}
+use Rattle.route_search.proofs.Leading.{never}
+use Rattle.route_trace.specs.Trace.{traceFirst, traceNext}
+use Rattle.envelope_door.specs.Calls.{pzReadImage, pzWriteFrame}
+use Rattle.ledger_door.specs.Calls.{pzAcceptImage, pzAnswerImage, pzTickImage, pzClearImage}
+use Rattle.chart_door.specs.Calls.{pzChartReadImage, pzChartWriteChart}
+use Rattle.route_door.specs.Routes.{ifRead, pzFirst, pzNext}
 use Rattle.sheet.specs.Sheet.{sheetAfter}
 use Rattle.door_laws.specs.Promises.{Untouched}
 
@@ -23,18 +21,18 @@ use Rattle.door_laws.specs.Promises.{Untouched}
 abbrev Kept : List ℕ → Told → Type 0
 Kept buf t = (k : ℕ) → t .answer ≡ Refused k → t .bytes ≡ buf
 
-told-kept : (number : ℕ) (r buf : List ℕ) → Kept buf (told number r buf)
+told-kept : (refusal : ℕ) (r buf : List ℕ) → Kept buf (told refusal r buf)
 unfolding told unlessRefused
 told-kept zero r buf k e = never (cc)
 told-kept (suc n) r buf k e = refl
 
-read-kept : (number : ℕ) (buf : List ℕ) (t : Told) → Kept buf t → Kept buf (unlessRefused number t (record { answer = Refused number; bytes = buf }))
+read-kept : (refusal : ℕ) (buf : List ℕ) (t : Told) → Kept buf t → Kept buf (unlessRefused refusal t (record { answer = Refused refusal; bytes = buf }))
 unfolding unlessRefused
 read-kept zero buf t h k e = h k e
 read-kept (suc n) buf t h k e = refl
 
 pub untouched : Untouched
-unfolding frameImage frameAfter acceptImage answerImage tickImage clearImage ledgerAfter chartImage chartAfterFor ifRead firstFor nextFor traceFirst traceNext sheetAfter
+unfolding pzReadImage pzWriteFrame pzAcceptImage pzAnswerImage pzTickImage pzClearImage ledgerAfter pzChartReadImage pzChartWriteChart ifRead pzFirst pzNext traceFirst traceNext sheetAfter
 untouched =
     record {
       read = λ f b h. refused _ _ _ h;

@@ -10,18 +10,19 @@ use lib.ListN.{length, getD, take, drop, length-drop, drop-of-length-le}
 use lib.Seq.{take-suc, take-all, drop-cons, getD-drop}
 use lib.Dec.{eqb, ltb}
 use borrow.Author.Tests.{lt-ltb, le-ltb, ltb-false, eqb-true, eqb-false, not-false}
-use Rattle.lists.specs.Bytes.{Bytes, wordAt}
+use Rattle.buffer.specs.Bytes.{Bytes, wordAt}
 use Rattle.lists.specs.Places.{anyBelow, repeats, elementAt, row}
 use Rattle.lists.proofs.Bools.{or-neither-of}
 use Rattle.lists.proofs.Places.{any-agree, any-never, any-false, repeats-agree, Agree, row-at}
 use Rattle.lists.proofs.Refusals.{pass, or-pass}
 use Rattle.address.specs.declared.Address.{Address}
-use Rattle.address.specs.Address.{inRange, sameAddress, keyOf}
-use Rattle.address.proofs.Laws.{unpack-ranged, key-same}
+use Rattle.address.specs.Address.{inRange, sameAddress}
+use Rattle.address_bytes.specs.Packed.{addressKey}
+use Rattle.address_bytes.proofs.PackedLaws.{unpack-ranged, key-same}
 use Rattle.envelope.specs.declared.Fixed.{Fixed}
-use Rattle.envelope.specs.Frame.{partAt, lengthOf, countOf, sizeOf, fieldsOf, destinationAt, xorFrom, checkOf}
-use Rattle.envelope.specs.Refusal.{versionFor, outside, strayAt, outOfRange, wrongVersion, frameRefusal, valueRefusal, valuesRefusal, refusalOf}
-use Rattle.envelope.specs.Keys.{keyAt}
+use Rattle.envelope.specs.Frame.{destinationsOffset, lengthOf, countOf, sizeOf, fieldsOf, destinationAt, xorFrom, checkOf}
+use Rattle.envelope.specs.Refusal.{versionFor, outside, strayAt, outOfRange, wrongVersion, wholeRefusal, valuesRefusalBy, valuesRefusal, frameRefusal}
+use Rattle.envelope.specs.Contracts.{keyAt}
 
 -- ---- the check character
 
@@ -67,14 +68,14 @@ unfolding strayAt
 never-stray part b n = any-never (strayAt (destinationAt part)) (λ i. rw (destination-ranged part b i)) n
 
 -- nothing in a frame of bytes is out of range
-pub never-out : (f : List ℕ) → Bytes f → outOfRange (fieldsOf f) (destinationAt (drop partAt f)) ≡ false
+pub never-out : (f : List ℕ) → Bytes f → outOfRange (fieldsOf f) (destinationAt (drop destinationsOffset f)) ≡ false
 unfolding outOfRange fieldsOf
 never-out f b =
     let p = 5 + 3 * countOf f in
     rw (
       unpack-ranged f b 0,
       le-ltb 32767 (wordAt f (p + 1) / 2) (omega (arith, b (p + 1), b (p + 1 + 1))),
-      never-stray (drop partAt f) (part-bytes partAt f b) (countOf f),
+      never-stray (drop destinationsOffset f) (part-bytes destinationsOffset f b) (countOf f),
     )
 
 -- ---- equal destinations are equal keys
@@ -85,7 +86,7 @@ unfolding keyAt
 keys-agree d n r =
     repeats-agree eqb sameAddress (elementAt 0 (row 63 0 (keyAt d) n)) d n (λ i j hi hj.
     ap (λ (k : ℕ). eqb k (elementAt 0 (row 63 0 (keyAt d) n) j)) (sym (row-at 63 0 (keyAt d) n i hi))
-    ∙ ap (eqb (keyOf (d i))) (sym (row-at 63 0 (keyAt d) n j hj))
+    ∙ ap (eqb (addressKey (d i))) (sym (row-at 63 0 (keyAt d) n j hj))
     ∙ sym (key-same (d i) (d j) (r i hi) (r j hj)))
 
 pub values-agree : (e : Fixed) (n : ℕ) (d d' : ℕ → Address) → Agree d d' (e .count) → valuesRefusal e n d ≡ valuesRefusal e n d'
@@ -103,11 +104,10 @@ pub record Framed (f : List ℕ) : Type 0 where
   pub sized : sizeOf f ≡ length f
   pub checked : checkOf (take (length f - 1) f) ≡ getD f (length f - 1) 0
 
-pub framed : (f : List ℕ) → frameRefusal f ≡ 0 → Framed f
-unfolding frameRefusal
+pub framed : (f : List ℕ) → wholeRefusal f ≡ 0 → Framed f
+unfolding wholeRefusal
 framed f h =
-    let p0 = pass 0 (ltb (length f) 10) _ h in
-    let p1 = pass 0 (ltb (length f) (sizeOf f)) _ (p0 .1) in
+    let p1 = pass 0 (ltb (length f) (sizeOf f)) _ h in
     let p2 = pass 1 (ltb (sizeOf f) (length f)) _ (p1 .1) in
     let p3 = pass 2 (not (eqb (checkOf (take (length f - 1) f)) (getD f (length f - 1) 0))) _ (p2 .1) in
     record { sized = omega (arith, ltb-false (length f) (sizeOf f) (p1 .0), ltb-false (sizeOf f) (length f) (p2 .0)); checked = eqb-true _ _ (not-false _ (p3 .0)) }
@@ -121,8 +121,8 @@ pub record Valued (e : Fixed) (n : ℕ) (stray equal : Bool) : Type 0 where
   pub distinct : equal ≡ false
   pub versioned : wrongVersion (e .version) (e .kind) ≡ false
 
-pub valued : (e : Fixed) (n : ℕ) (stray equal : Bool) → valueRefusal e n stray equal ≡ 0 → Valued e n stray equal
-unfolding valueRefusal
+pub valued : (e : Fixed) (n : ℕ) (stray equal : Bool) → valuesRefusalBy e n stray equal ≡ 0 → Valued e n stray equal
+unfolding valuesRefusalBy
 valued e n stray equal h =
     let p4 = pass 3 (outside 63 (e .count)) _ h in
     let p5 = pass 4 (ltb 1023 n) _ (p4 .1) in
@@ -134,52 +134,52 @@ valued e n stray equal h =
 
 -- the number of values, from the tests on the way
 module _ (e : Fixed) (n : ℕ) (stray equal : Bool) where
-  pub values-4 : outside 63 (e .count) ≡ true → 4 ≡ valueRefusal e n stray equal
-  unfolding valueRefusal
+  pub values-4 : outside 63 (e .count) ≡ true → 4 ≡ valuesRefusalBy e n stray equal
+  unfolding valuesRefusalBy
   values-4 h = rw h
 
   module _ (counted : outside 63 (e .count) ≡ false) where
-    pub values-5 : 1023 < n → 5 ≡ valueRefusal e n stray equal
-    unfolding valueRefusal
+    pub values-5 : 1023 < n → 5 ≡ valuesRefusalBy e n stray equal
+    unfolding valuesRefusalBy
     values-5 h = rw (counted, lt-ltb 1023 n h)
 
     module _ (short : n ≤ 1023) where
-      pub values-6 : stray ≡ true → 6 ≡ valueRefusal e n stray equal
-      unfolding valueRefusal
+      pub values-6 : stray ≡ true → 6 ≡ valuesRefusalBy e n stray equal
+      unfolding valuesRefusalBy
       values-6 h = rw (counted, le-ltb 1023 n short, h)
 
       module _ (inside : stray ≡ false) where
-        pub values-7 : outside 9 (e .priority) ≡ true → 7 ≡ valueRefusal e n stray equal
-        unfolding valueRefusal
+        pub values-7 : outside 9 (e .priority) ≡ true → 7 ≡ valuesRefusalBy e n stray equal
+        unfolding valuesRefusalBy
         values-7 h = rw (counted, le-ltb 1023 n short, inside, h)
 
         module _ (urgent : outside 9 (e .priority) ≡ false) where
-          pub values-8 : equal ≡ true → 8 ≡ valueRefusal e n stray equal
-          unfolding valueRefusal
+          pub values-8 : equal ≡ true → 8 ≡ valuesRefusalBy e n stray equal
+          unfolding valuesRefusalBy
           values-8 h = rw (counted, le-ltb 1023 n short, inside, urgent, h)
 
           module _ (distinct : equal ≡ false) where
-            pub values-9 : wrongVersion (e .version) (e .kind) ≡ true → 9 ≡ valueRefusal e n stray equal
-            unfolding valueRefusal
+            pub values-9 : wrongVersion (e .version) (e .kind) ≡ true → 9 ≡ valuesRefusalBy e n stray equal
+            unfolding valuesRefusalBy
             values-9 h = rw (counted, le-ltb 1023 n short, inside, urgent, distinct, h)
 
-            pub values-right : wrongVersion (e .version) (e .kind) ≡ false → 0 ≡ valueRefusal e n stray equal
-            unfolding valueRefusal
+            pub values-right : wrongVersion (e .version) (e .kind) ≡ false → 0 ≡ valuesRefusalBy e n stray equal
+            unfolding valuesRefusalBy
             values-right h = rw (counted, le-ltb 1023 n short, inside, urgent, distinct, h)
 
 -- an accepted frame
 pub record Accepted (f : List ℕ) : Type 0 where
   pub frame : Framed f
-  pub values : Valued (fieldsOf f) (lengthOf f) (outOfRange (fieldsOf f) (destinationAt (drop partAt f))) (repeats sameAddress (destinationAt (drop partAt f)) (countOf f))
+  pub values : Valued (fieldsOf f) (lengthOf f) (outOfRange (fieldsOf f) (destinationAt (drop destinationsOffset f))) (repeats sameAddress (destinationAt (drop destinationsOffset f)) (countOf f))
 
-pub accepted : (f : List ℕ) → refusalOf f ≡ 0 → Accepted f
-unfolding refusalOf fieldsOf
+pub accepted : (f : List ℕ) → frameRefusal f ≡ 0 → Accepted f
+unfolding frameRefusal fieldsOf
 accepted f h =
-    let p = or-pass (frameRefusal f) _ h in
+    let p = or-pass (wholeRefusal f) _ h in
     record { frame = framed f (p .0); values = valued _ _ _ _ (p .1) }
 
 -- the end of an accepted frame is its check character
-pub last-byte : (f : List ℕ) → refusalOf f ≡ 0 → drop (length f - 1) f ≡ checkOf (take (length f - 1) f) ∷ []
+pub last-byte : (f : List ℕ) → frameRefusal f ≡ 0 → drop (length f - 1) f ≡ checkOf (take (length f - 1) f) ∷ []
 last-byte f z =
     let a = accepted f z .frame in
     let h : length f - 1 < length f = omega (arith, a .sized) in

@@ -4,9 +4,9 @@ use mathlib.Core.List.{List, [], _∷_}
 use lib.Dec.{eqb}
 use lib.Bits.{bitXor}
 use lib.ListN.{getD}
-use Rattle.lists.specs.Bytes.{wordAt}
+use Rattle.buffer.specs.Bytes.{wordAt}
 use Rattle.address.specs.declared.Address.{Address}
-use Rattle.address.specs.Address.{unpackAt}
+use Rattle.address_bytes.specs.Packed.{packedSize, packedIn}
 use Rattle.envelope.specs.declared.Fixed.{Fixed}
 
 -- <count&length>, after the three bytes of <source>: 10 bits of length, then 6 of count
@@ -16,37 +16,55 @@ lengthOf f = wordAt f 3 / 64
 unfoldable pub countOf : List ℕ → ℕ
 countOf f = wordAt f 3 % 64
 
--- where the destinations begin, where <prot&priority> stands after them, and where the contents begin
-abbrev pub partAt : ℕ
-partAt = 5
+-- where the destinations begin; after n of them stand <prot&priority>, <ack&seq> and <message_type>, and then the contents
+abbrev pub destinationsOffset : ℕ
+destinationsOffset = 5
 
-abbrev pub protAt : List ℕ → ℕ
-protAt f = 5 + 3 * countOf f
+abbrev pub protOffset : ℕ → ℕ
+protOffset n = 5 + 3 * n
 
-abbrev pub contentsStart : List ℕ → ℕ
-contentsStart f = 9 + 3 * countOf f
+abbrev pub contentsOffset : ℕ → ℕ
+contentsOffset n = 9 + 3 * n
 
--- the size that the two counts ask for: the fixed fields and the check character are 10 bytes
+-- the size of a frame of n destinations and so many bytes of contents: the fixed fields and the check character are 10 bytes
+abbrev pub frameSize : ℕ → ℕ → ℕ
+frameSize n long = 10 + 3 * n + long
+
+-- the size that the two counts ask for
 abbrev pub sizeOf : List ℕ → ℕ
-sizeOf f = 10 + 3 * countOf f + lengthOf f
+sizeOf f = frameSize (countOf f) (lengthOf f)
 
 -- the fixed fields. <prot&priority> is 4 bits and 4 bits, <ack&seq> 15 bits of <seq> and then <ack_req>
 unfoldable pub fieldsOf : List ℕ → Fixed
 fieldsOf f =
     record {
-      source = unpackAt f 0;
+      source = packedIn f 0;
       count = countOf f;
       length = lengthOf f;
-      priority = getD f (protAt f) 0 / 16;
-      version = getD f (protAt f) 0 % 16;
-      ack = eqb (wordAt f (protAt f + 1) % 2) 1;
-      seq = record { 0 = wordAt f (protAt f + 1) / 2 };
-      kind = getD f (protAt f + 3) 0;
+      priority = getD f (protOffset (countOf f)) 0 / 16;
+      version = getD f (protOffset (countOf f)) 0 % 16;
+      ack = eqb (wordAt f (protOffset (countOf f) + 1) % 2) 1;
+      seq = record { 0 = wordAt f (protOffset (countOf f) + 1) / 2 };
+      kind = getD f (protOffset (countOf f) + 3) 0;
+    }
+
+-- the same fields with another length
+abbrev pub withLength : Fixed → ℕ → Fixed
+withLength e n =
+    record {
+      source = e .source;
+      count = e .count;
+      length = n;
+      priority = e .priority;
+      version = e .version;
+      ack = e .ack;
+      seq = e .seq;
+      kind = e .kind;
     }
 
 -- the destination at a place, in the part of a frame that begins with the destinations
 unfoldable pub destinationAt : List ℕ → ℕ → Address
-destinationAt part i = unpackAt part (3 * i)
+destinationAt part i = packedIn part (packedSize * i)
 
 -- <bcc>: the exclusive or of all bytes, first to last
 unfoldable pub xorFrom : ℕ → List ℕ → ℕ

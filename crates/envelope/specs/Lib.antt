@@ -1,3 +1,3 @@
 pub mod Frame
 pub mod Refusal
-pub mod Keys
+pub mod Contracts

@@ -9,7 +9,7 @@ use Rattle.lists.specs.Refusals.{refuse, orElse}
 use Rattle.address.specs.declared.Address.{Address}
 use Rattle.address.specs.Address.{largestSeq, inRange, sameAddress}
 use Rattle.envelope.specs.declared.Fixed.{Fixed}
-use Rattle.envelope.specs.Frame.{partAt, lengthOf, sizeOf, fieldsOf, destinationAt, checkOf}
+use Rattle.envelope.specs.Frame.{destinationsOffset, lengthOf, sizeOf, fieldsOf, destinationAt, checkOf}
 
 -- the limits: destinations 1 to 63; L, the longest contents (3.6.5); priority 1 to 9, 1 the highest
 abbrev pub mostDestinations : ℕ
@@ -44,18 +44,17 @@ outOfRange e d = not (inRange (e .source)) || (ltb largestSeq (e .seq .0) || any
 unfoldable pub wrongVersion : ℕ → ℕ → Bool
 wrongVersion version kind = not (eqb version (versionFor kind))
 
--- 1 to 3, of a frame: too short, too long, the check character
-unfoldable pub frameRefusal : List ℕ → ℕ
-frameRefusal f =
-    refuse 1 (ltb (length f) 10)
-    (refuse 1 (ltb (length f) (sizeOf f))
+-- 1 to 3, of a frame: too short for its own two counts (which a frame that ends before its fixed fields is too), too long, the check character
+unfoldable pub wholeRefusal : List ℕ → ℕ
+wholeRefusal f =
+    refuse 1 (ltb (length f) (sizeOf f))
     (refuse 2 (ltb (sizeOf f) (length f))
     (refuse 3 (not (eqb (checkOf (take (length f - 1) f)) (getD f (length f - 1) 0)))
-    0)))
+    0))
 
 -- 4 to 9, of the fields e and n bytes of contents: stray, something is out of range; equal, two destinations are equal
-unfoldable pub valueRefusal : Fixed → ℕ → Bool → Bool → ℕ
-valueRefusal e n stray equal =
+unfoldable pub valuesRefusalBy : Fixed → ℕ → Bool → Bool → ℕ
+valuesRefusalBy e n stray equal =
     refuse 4 (outside mostDestinations (e .count))
     (refuse 5 (ltb longestContents n)
     (refuse 6 stray
@@ -66,8 +65,8 @@ valueRefusal e n stray equal =
 
 -- 4 to 9, of the fields, n bytes of contents and the destinations d: what reader and writer share
 abbrev pub valuesRefusal : Fixed → ℕ → (ℕ → Address) → ℕ
-valuesRefusal e n d = valueRefusal e n (outOfRange e d) (repeats sameAddress d (e .count))
+valuesRefusal e n d = valuesRefusalBy e n (outOfRange e d) (repeats sameAddress d (e .count))
 
 -- 1 to 9, of a frame
-unfoldable pub refusalOf : List ℕ → ℕ
-refusalOf f = orElse (frameRefusal f) (valuesRefusal (fieldsOf f) (lengthOf f) (destinationAt (drop partAt f)))
+unfoldable pub frameRefusal : List ℕ → ℕ
+frameRefusal f = orElse (wholeRefusal f) (valuesRefusal (fieldsOf f) (lengthOf f) (destinationAt (drop destinationsOffset f)))

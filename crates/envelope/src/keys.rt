@@ -3,10 +3,11 @@ ghost use mathlib.Core.Path.{_≡_};
 ghost use Prim.Native.Nat.{_<_, _≤_};
 ghost use lib.Dec.{eqb};
 ghost use Rattle.lists.specs.Places.{elementAt, repeatAt, repeats};
+ghost use Rattle.envelope.specs.Refusal.{mostDestinations};
 
-// Whether the key at i is that of an earlier place. No early way out: a loop without one is compared several keys at a time.
+// Whether the key at i is that of an earlier place. No early return, so the compiler compares several keys at once.
 fn seen(keys: &[u32; 63], i: usize) -> bool
-    requires { ⌜ i < 63 ⌝ }
+    requires { ⌜ i < mostDestinations ⌝ }
     ensures { λ r. ⌜ r ≡ repeatAt eqb (elementAt 0 (now (keys .entry))) i ⌝ }
 {
     let key = keys[i];
@@ -21,7 +22,7 @@ fn seen(keys: &[u32; 63], i: usize) -> bool
 
 // Whether two of the first n keys are equal.
 pub fn repeated(keys: &[u32; 63], n: usize) -> bool
-    requires { ⌜ n ≤ 63 ⌝ }
+    requires { ⌜ n ≤ mostDestinations ⌝ }
     ensures { λ r. ⌜ r ≡ repeats eqb (elementAt 0 (now (keys .entry))) n ⌝ }
 {
     let mut i = 0;

@@ -10,7 +10,15 @@ pub use frame::check;
 pub use refusing::LONGEST_CONTENTS;
 pub use refusing::LOWEST_PRIORITY;
 pub use refusing::MOST_DESTINATIONS;
-pub use refusing::values_refusal;
+pub use refusing::values_refusal_by;
+
+// Where the destinations of a frame begin, and where the contents of a frame without destinations would; each destination takes three bytes more.
+pub const DESTINATIONS_OFFSET: usize = 5;
+
+pub const CONTENTS_OFFSET: usize = 9;
+
+// The size of a frame without destinations and contents.
+pub const SMALLEST_FRAME: usize = 10;
 
 // The fixed fields of an envelope. The destinations and the contents stay in the frame.
 pub struct Fixed {

@@ -4,7 +4,7 @@ use crate::keys::repeated;
 ghost use mathlib.Core.Path.{_≡_};
 ghost use lib.Dec.{eqb};
 ghost use Rattle.lists.specs.Places.{elementAt, repeats};
-ghost use Rattle.envelope.specs.Refusal.{outside, wrongVersion, valueRefusal};
+ghost use Rattle.envelope.specs.Refusal.{outside, wrongVersion, valuesRefusalBy};
 
 pub const MOST_DESTINATIONS: u8 = 63;
 
@@ -33,8 +33,8 @@ fn wrong_version(version: u8, kind: u8) -> bool
 }
 
 // Refusals 4 to 9 of the fields, n bytes of contents and the destinations' keys, or 0; stray says whether anything is out of range.
-pub fn values_refusal(e: Fixed, n: usize, stray: bool, keys: &[u32; 63]) -> u8
-    ensures { λ r. ⌜ r ≡ valueRefusal e n stray (repeats eqb (elementAt 0 (now (keys .entry))) (e .count)) ⌝ }
+pub fn values_refusal_by(e: Fixed, n: usize, stray: bool, keys: &[u32; 63]) -> u8
+    ensures { λ r. ⌜ r ≡ valuesRefusalBy e n stray (repeats eqb (elementAt 0 (now (keys .entry))) (e .count)) ⌝ }
 {
     if is_outside(MOST_DESTINATIONS, e.count) {
         return 4;

@@ -1,23 +1,26 @@
 // A frame's fields where they stand (appendix A, <envelope>), whether it is whole (refusals 1 to 3), and the keys of its destinations.
 use address::Seq;
+use address_bytes::PACKED_SIZE;
+use envelope::DESTINATIONS_OFFSET;
 use envelope::Fixed;
+use envelope::SMALLEST_FRAME;
 ghost use mathlib.Core.Path.{_≡_};
 ghost use Prim.Native.Nat.{_≤_};
 ghost use Rattle.lists.specs.Places.{row};
 ghost use Rattle.envelope.specs.Frame.{fieldsOf, destinationAt};
-ghost use Rattle.envelope.specs.Keys.{keyAt};
-ghost use Rattle.envelope.specs.Refusal.{frameRefusal};
+ghost use Rattle.envelope.specs.Contracts.{keyAt};
+ghost use Rattle.envelope.specs.Refusal.{mostDestinations, wholeRefusal};
 
 // The fixed fields; a byte past the end counts as 0.
-pub fn fields(frame: &[u8]) -> Fixed
+pub fn fields_of(frame: &[u8]) -> Fixed
     ensures { λ r. ⌜ r ≡ fieldsOf (now (frame .entry)) ⌝ }
 {
-    let source = packing::unpack(frame, 0);
-    let w = lists::word_at(frame, 3);
-    let prot = 5 + 3 * ((w % 64) as usize);
-    let p = lists::byte_at(frame, prot);
-    let a = lists::word_at(frame, prot + 1);
-    let kind = lists::byte_at(frame, prot + 3);
+    let source = address_bytes::packed_in(frame, 0);
+    let w = buffer::word_at(frame, 3);
+    let prot = DESTINATIONS_OFFSET + PACKED_SIZE * ((w % 64) as usize);
+    let p = buffer::byte_at(frame, prot);
+    let a = buffer::word_at(frame, prot + 1);
+    let kind = buffer::byte_at(frame, prot + 3);
     Fixed {
         source,
         count: (w % 64) as u8,
@@ -31,15 +34,12 @@ pub fn fields(frame: &[u8]) -> Fixed
 }
 
 // Refusals 1 to 3, or 0.
-pub fn frame_refusal(frame: &[u8]) -> u8
-    ensures { λ r. ⌜ r ≡ frameRefusal (now (frame .entry)) ⌝ }
+pub fn whole_refusal(frame: &[u8]) -> u8
+    ensures { λ r. ⌜ r ≡ wholeRefusal (now (frame .entry)) ⌝ }
 {
     let n = frame.len();
-    if n < 10 {
-        return 1;
-    }
-    let w = lists::word_at(frame, 3) as usize;
-    let size = 10 + 3 * (w % 64) + w / 64;
+    let w = buffer::word_at(frame, 3) as usize;
+    let size = SMALLEST_FRAME + PACKED_SIZE * (w % 64) + w / 64;
     if n < size {
         return 1;
     }
@@ -55,13 +55,13 @@ pub fn frame_refusal(frame: &[u8]) -> u8
 
 // The keys of the first n destinations of the part of a frame that begins with them.
 pub fn keys_in(part: &[u8], n: usize) -> [u32; 63]
-    requires { ⌜ n ≤ 63 ⌝ }
-    ensures { λ r. ⌜ r ≡ row 63 0 (keyAt (destinationAt (now (part .entry)))) n ⌝ }
+    requires { ⌜ n ≤ mostDestinations ⌝ }
+    ensures { λ r. ⌜ r ≡ row mostDestinations 0 (keyAt (destinationAt (now (part .entry)))) n ⌝ }
 {
     let mut keys = [0u32; 63];
     let mut i = 0;
     while i < n {
-        keys[i] = packing::key(packing::unpack(part, 3 * i));
+        keys[i] = address_bytes::address_key(address_bytes::packed_in(part, PACKED_SIZE * i));
         i += 1;
     }
     keys

@@ -6,51 +6,51 @@ use mathlib.Core.Bool.{Bool, true, false}
 use lib.Dec.{ltb}
 use lib.ListN.{length, take, drop}
 use lib.Seq.{take-at}
-use Rattle.lists.specs.Bytes.{Bytes}
+use Rattle.buffer.specs.Bytes.{Bytes}
 use Rattle.lists.specs.Places.{elementAt, repeats}
 use Rattle.lists.specs.Refusals.{refuse, orElse, among}
-use Rattle.lists.proofs.Writing.{wrote-taken}
+use Rattle.buffer.proofs.Writing.{wrote-taken}
 use Rattle.lists.proofs.Refusals.{taken}
 use Rattle.address.specs.declared.Address.{Address}
 use Rattle.address.specs.Address.{zeroAddress, sameAddress}
 use Rattle.envelope.specs.declared.Fixed.{Fixed}
 use Rattle.envelope_read.specs.declared.Read.the-variants.{Envelope}
 use Rattle.envelope.specs.Frame.{fieldsOf}
-use Rattle.envelope.specs.Refusal.{mostDestinations, longestContents, lowestPriority, outside, outOfRange, wrongVersion, valueRefusal}
-use Rattle.envelope_read.specs.Read.{readOf}
-use Rattle.envelope_parts.specs.Parts.{contentsOf, destinationsOf}
+use Rattle.envelope.specs.Refusal.{mostDestinations, longestContents, lowestPriority, outside, outOfRange, wrongVersion, valuesRefusalBy}
+use Rattle.envelope_read.specs.Read.{readFrameOf}
+use Rattle.envelope_read.specs.Parts.{contentsOf, destinationsOf}
 use Rattle.envelope_read.proofs.Laws.{read-envelope}
-use Rattle.lists.specs.declared.Written.the-variants.{Wrote}
-use Rattle.envelope_refuse.specs.Refuse.{sizeFor, writeRefusal}
-use Rattle.envelope_write.specs.Write.{bytesOf, writeOf, afterOf}
-use Rattle.envelope_write.specs.Promises.{ReadUndoesWrite, WriteUndoesRead, writerNumbers}
-use Rattle.envelope_refuse.proofs.Laws.{write-taken}
+use Rattle.buffer.specs.declared.Written.the-variants.{Wrote}
+use Rattle.envelope_write.specs.Refusal.{sizeFor, frameWriteRefusal}
+use Rattle.envelope_write.specs.Write.{frameBytes, writeFrameOf, afterOf}
+use Rattle.envelope_write.specs.Promises.{FrameReadBack, FrameWrittenBack, writerRefusals}
+use Rattle.envelope_write.proofs.RefuseLaws.{write-taken}
 use Rattle.envelope_write.proofs.Laws.{length-bytes, wrote}
 use Rattle.envelope_write.proofs.ReadBack.{fields-read, contents-read, destinations-read}
 use Rattle.envelope_write.proofs.WriteBack.{taken-again, bytes-again}
 
 -- reading undoes writing, of whatever the writer takes
-pub read-undoes-write : (e : Fixed) (d : ℕ → Address) (l out : List ℕ) (n : ℕ) → writeOf e d (length l) (length out) ≡ Wrote n → ReadUndoesWrite e d l out n
-unfolding writeOf afterOf
+pub read-undoes-write : (e : Fixed) (d : ℕ → Address) (l out : List ℕ) (n : ℕ) → writeFrameOf e d (length l) (length out) ≡ Wrote n → FrameReadBack e d l out n
+unfolding writeFrameOf afterOf
 read-undoes-write e d l out n h =
     let w = wrote e d (length l) (length out) h in
     let z = write-taken e d (length l) (length out) (w .0) in
-    let b : take n (afterOf e d l out) ≡ bytesOf e d l =
-    ap (take n) (taken _ _ (w .0)) ∙ take-at (bytesOf e d l) (drop (length (bytesOf e d l)) out) n (length-bytes e d l ∙ sym (w .1)) in
+    let b : take n (afterOf e d l out) ≡ frameBytes e d l =
+    ap (take n) (taken _ _ (w .0)) ∙ take-at (frameBytes e d l) (drop (length (frameBytes e d l)) out) n (length-bytes e d l ∙ sym (w .1)) in
     record {
-      fields = ap readOf b ∙ fields-read e d l z;
+      fields = ap readFrameOf b ∙ fields-read e d l z;
       contents = ap contentsOf b ∙ contents-read e d l z;
       destinations = ap destinationsOf b ∙ destinations-read e d l z;
     }
 
 -- writing undoes reading, of any frame of bytes that the reader takes
-pub write-undoes-read : (f : List ℕ) → Bytes f → (e : Fixed) → readOf f ≡ Envelope e → (out : List ℕ) → length f ≤ length out → WriteUndoesRead f e out
-unfolding writeOf afterOf
+pub write-undoes-read : (f : List ℕ) → Bytes f → (e : Fixed) → readFrameOf f ≡ Envelope e → (out : List ℕ) → length f ≤ length out → FrameWrittenBack f e out
+unfolding writeFrameOf afterOf
 write-undoes-read f b e h out room =
     let o = read-envelope f e (sym h) in
-    let d = elementAt zeroAddress (destinationsOf f .places) in
+    let d = elementAt zeroAddress (destinationsOf f .addresses) in
     let z = taken-again f b (o .none) (length out) room in
-    let s : bytesOf (fieldsOf f) d (contentsOf f) ≡ f = bytes-again f b (o .none) in
+    let s : frameBytes (fieldsOf f) d (contentsOf f) ≡ f = bytes-again f b (o .none) in
     rw (o .same)
     (record {
       answer = sym (wrote-taken _ z) ∙ ap Wrote (sym (length-bytes (fieldsOf f) d (contentsOf f)) ∙ ap length s);
@@ -59,7 +59,7 @@ write-undoes-read f b e h out room =
 
 -- the tests come after one another, and each has its number
 by-tests : (a b c d e f g : Bool)
-    → among (orElse (refuse 4 a (refuse 5 b (refuse 6 c (refuse 7 d (refuse 8 e (refuse 9 f 0)))))) (refuse 10 g 0)) writerNumbers ≡ true
+    → among (orElse (refuse 4 a (refuse 5 b (refuse 6 c (refuse 7 d (refuse 8 e (refuse 9 f 0)))))) (refuse 10 g 0)) writerRefusals ≡ true
 by-tests true b c d e f g = refl
 by-tests false true c d e f g = refl
 by-tests false false true d e f g = refl
@@ -70,8 +70,8 @@ by-tests false false false false false false true = refl
 by-tests false false false false false false false = refl
 
 -- the numbers that the writer gives
-pub writer-numbers : (e : Fixed) (d : ℕ → Address) (n room : ℕ) → among (writeRefusal e d n room) writerNumbers ≡ true
-unfolding writeRefusal valueRefusal
+pub writer-numbers : (e : Fixed) (d : ℕ → Address) (n room : ℕ) → among (frameWriteRefusal e d n room) writerRefusals ≡ true
+unfolding frameWriteRefusal valuesRefusalBy
 writer-numbers e d n room =
     by-tests
     (outside mostDestinations (e .count))

@@ -1,2 +1,4 @@
 pub mod Write
 pub mod Promises
+pub mod Refusal
+pub mod Contracts

@@ -32,26 +32,26 @@ isOpen Undeliverable = false
 isOpen TimedOut = false
 
 -- an open leg with this source, this destination and this sequence number
-unfoldable pub openLeg : Address → Address → Seq → Leg → Bool
-openLeg source destination seq g =
+unfoldable pub isOpenLeg : Address → Address → Seq → Leg → Bool
+isOpenLeg source destination seq g =
     isOpen (g .standing) && sameAddress (g .source) source && sameAddress (g .destination) destination && eqb (g .seq .0) (seq .0)
 
 -- two open legs alike in source, destination and sequence number
 unfoldable pub alike : Leg → Leg → Bool
-alike g h = isOpen (g .standing) && openLeg (g .source) (g .destination) (g .seq) h
+alike g h = isOpen (g .standing) && isOpenLeg (g .source) (g .destination) (g .seq) h
 
 -- an open leg has ticks left, and a settled one none
-unfoldable pub ticksRight : Leg → Bool
-ticksRight g = cond (isOpen (g .standing)) (ltb 0 (g .ticks)) (eqb (g .ticks) 0)
+unfoldable pub ticksObey : Leg → Bool
+ticksObey g = cond (isOpen (g .standing)) (ltb 0 (g .ticks)) (eqb (g .ticks) 0)
 
 -- and its addresses and sequence number are in range
-unfoldable pub legRight : Leg → Bool
-legRight g = ticksRight g && inRange (g .source) && inRange (g .destination) && leb (g .seq .0) largestSeq
+unfoldable pub legObeys : Leg → Bool
+legObeys g = ticksObey g && inRange (g .source) && inRange (g .destination) && leb (g .seq .0) largestSeq
 
 -- the leg at a place is not right
-unfoldable pub wrongAt : Ledger → ℕ → Bool
-wrongAt l i = not (legRight (legAt l i))
+unfoldable pub brokenAt : Ledger → ℕ → Bool
+brokenAt l i = not (legObeys (legAt l i))
 
 -- the ledger obeys its rules: not too many legs, none of them wrong, no two alike. Places past the count are not looked at
 unfoldable pub obeys : Ledger → Bool
-obeys l = leb (l .count) mostLegs && not (anyBelow (wrongAt l) (l .count)) && not (repeats alike (legAt l) (l .count))
+obeys l = leb (l .count) mostLegs && not (anyBelow (brokenAt l) (l .count)) && not (repeats alike (legAt l) (l .count))

@@ -4,7 +4,8 @@ use crate::rules::is_open;
 ghost use mathlib.Core.Path.{_≡_};
 ghost use Prim.Native.Nat.{_<_, _≤_};
 ghost use Rattle.lists.specs.Places.{repeatAt, repeats, elementAt};
-ghost use Rattle.ledger.specs.Keys.{legKey, sameKey};
+ghost use Rattle.ledger.specs.Contracts.{legKey, sameKey};
+ghost use Rattle.ledger.specs.Rules.{mostLegs};
 
 // The 63 bits of source, destination and sequence number of an open leg, and one more; 0 of a settled leg.
 pub fn leg_key(g: Leg) -> u64
@@ -14,15 +15,15 @@ pub fn leg_key(g: Leg) -> u64
     if !is_open(s) {
         return 0;
     }
-    let from = packing::key(g.source) as u64;
-    let to = packing::key(g.destination) as u64;
+    let source = address_bytes::address_key(g.source) as u64;
+    let destination = address_bytes::address_key(g.destination) as u64;
     let n = g.seq.0 as u64;
-    from * 549755813888 + to * 32768 + n + 1
+    (source * 16777216 + destination) * 32768 + n + 1
 }
 
-// Whether the key at i is an open leg's, and that of an earlier place. No early way out of the loop: so several keys are compared at a time.
+// Whether the key at i is an open leg's, and that of an earlier place. No early return, so the compiler compares several keys at once.
 fn seen(keys: &[u64; 128], i: usize) -> bool
-    requires { ⌜ i < 128 ⌝ }
+    requires { ⌜ i < mostLegs ⌝ }
     ensures { λ r. ⌜ r ≡ repeatAt sameKey (elementAt 0 (now (keys .entry))) i ⌝ }
 {
     let key = keys[i];
@@ -37,7 +38,7 @@ fn seen(keys: &[u64; 128], i: usize) -> bool
 
 // Whether two of the first n keys are those of legs alike.
 pub fn repeated(keys: &[u64; 128], n: usize) -> bool
-    requires { ⌜ n ≤ 128 ⌝ }
+    requires { ⌜ n ≤ mostLegs ⌝ }
     ensures { λ r. ⌜ r ≡ repeats sameKey (elementAt 0 (now (keys .entry))) n ⌝ }
 {
     let mut i = 0;

@@ -12,7 +12,7 @@ mod rules;
 pub use rules::MOST_LEGS;
 pub use rules::is_open;
 pub use rules::is_open_leg;
-pub use rules::obeys_rules;
+pub use rules::obeys;
 
 pub enum Standing {
     Open,
@@ -39,7 +39,7 @@ pub struct Ledger {
 // What answer and clear give: the number, and the ledger after the call.
 pub struct Outcome {
     pub ledger: Ledger,
-    pub number: u8,
+    pub refusal: u8,
 }
 
 // What stands at a place with no leg.

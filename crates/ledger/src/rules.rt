@@ -8,7 +8,7 @@ use address::Address;
 use address::LARGEST_SEQ;
 use address::Seq;
 ghost use mathlib.Core.Path.{_≡_};
-ghost use Rattle.ledger.specs.Rules.{isOpen, openLeg, legRight, obeys};
+ghost use Rattle.ledger.specs.Rules.{isOpen, isOpenLeg, legObeys, obeys};
 
 pub const MOST_LEGS: u8 = 128;
 
@@ -24,7 +24,7 @@ pub fn is_open(s: Standing) -> bool
 
 // Whether the leg is open, and has this source, this destination and this sequence number.
 pub fn is_open_leg(g: Leg, source: Address, destination: Address, seq: Seq) -> bool
-    ensures { λ r. ⌜ r ≡ openLeg source destination seq g ⌝ }
+    ensures { λ r. ⌜ r ≡ isOpenLeg source destination seq g ⌝ }
 {
     let s = g.standing;
     is_open(s)
@@ -34,8 +34,8 @@ pub fn is_open_leg(g: Leg, source: Address, destination: Address, seq: Seq) -> b
 }
 
 // Whether an open leg has ticks left and a settled one none, and the addresses and the sequence number are in range.
-fn leg_right(g: Leg) -> bool
-    ensures { λ r. ⌜ r ≡ legRight g ⌝ }
+fn leg_obeys(g: Leg) -> bool
+    ensures { λ r. ⌜ r ≡ legObeys g ⌝ }
 {
     let s = g.standing;
     (is_open(s) == (0 < g.ticks))
@@ -45,7 +45,7 @@ fn leg_right(g: Leg) -> bool
 }
 
 // Whether the ledger obeys its rules: each leg is right, and no two of their keys are alike.
-pub fn obeys_rules(l: Ledger) -> bool
+pub fn obeys(l: Ledger) -> bool
     ensures { λ r. ⌜ r ≡ obeys l ⌝ }
 {
     if MOST_LEGS < l.count {
@@ -56,7 +56,7 @@ pub fn obeys_rules(l: Ledger) -> bool
     let mut i: usize = 0;
     while i < n {
         let g = l.legs[i];
-        if !leg_right(g) {
+        if !leg_obeys(g) {
             return false;
         }
         keys[i] = leg_key(g);

@@ -6,10 +6,10 @@ use Prim.Native.Nat.{ℕ}
 use Rattle.ledger.specs.Rules.{obeys}
 use Rattle.table_image.specs.Table.{tableOf}
 use Rattle.ledger_image.specs.Ledger.{readableLedger, ledgerOf}
-use Rattle.ledger_laws.specs.Calls.{accepting, answering, ticking, clearing, numberOf}
-use Rattle.ledger_laws.specs.Promises.{brokenNumber}
+use Rattle.ledger_laws.specs.Calls.{accepting, answering, ticking, clearing, refusalOf}
+use Rattle.ledger_laws.specs.Promises.{brokenRefusal}
 use Rattle.ledger_laws.proofs.Promises.{rules-broken}
-use Rattle.ledger_door.specs.Calls.{answerFor, tickFor, clearFor, acceptFor}
+use Rattle.ledger_door.specs.Calls.{pzAnswer, pzTick, pzClear, pzAccept}
 use Rattle.ledger_door.specs.Promises.{Unreadable}
 
 broken : (b : List ℕ) → readableLedger b ≡ false → obeys (ledgerOf b) ≡ false
@@ -17,7 +17,7 @@ unfolding ledgerOf obeys
 broken b h = rw h
 
 pub unreadable : Unreadable
-unfolding answerFor tickFor clearFor acceptFor numberOf brokenNumber
+unfolding pzAnswer pzTick pzClear pzAccept refusalOf brokenRefusal
 unreadable =
     record {
       answer = λ b by to seq reply h. rules-broken (ledgerOf b) (answering by to seq reply) (broken b h);

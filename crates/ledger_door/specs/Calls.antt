@@ -8,15 +8,15 @@ use lib.Dec.{eqb}
 use Rattle.address.specs.declared.Port.{Port}
 use Rattle.address.specs.declared.Seq.{Seq}
 use Rattle.address.specs.declared.Address.{Address}
-use Rattle.answer.specs.declared.Reply.{Reply}
-use Rattle.answer.specs.declared.Reply.the-variants.{Ack, Nak}
+use Rattle.ledger_answer.specs.declared.Reply.{Reply}
+use Rattle.ledger_answer.specs.declared.Reply.the-variants.{Ack, Nak}
 use Rattle.ledger.specs.declared.Outcome.{Outcome}
-use Rattle.tick.specs.declared.Ticked.{Ticked}
-use Rattle.answer.specs.Answer.{answerOf}
-use Rattle.tick.specs.Tick.{tickOf}
-use Rattle.clear.specs.Clear.{clearOf}
-use Rattle.accept.specs.declared.Accepted.{Accepted}
-use Rattle.accept.specs.Accept.{acceptOf}
+use Rattle.ledger_tick.specs.declared.Ticked.{Ticked}
+use Rattle.ledger_answer.specs.Answer.{answerOf}
+use Rattle.ledger_tick.specs.Tick.{tickOf}
+use Rattle.ledger_clear.specs.Clear.{clearOf}
+use Rattle.ledger_accept.specs.declared.Added.{Added}
+use Rattle.ledger_accept.specs.Accept.{acceptOf}
 use Rattle.table_image.specs.Table.{tableOf}
 use Rattle.ledger_image.specs.Ledger.{ledgerOf, ledgerAfter}
 
@@ -25,29 +25,29 @@ unfoldable pub replyOf : ℕ → ℕ → ℕ → Reply
 replyOf nak set code = cond (eqb nak 0) Ack (Nak set code)
 
 module _ (b : List ℕ) (by to : Address) (seq : Seq) (reply : Reply) where
-  unfoldable pub answerFor : Outcome
-  answerFor = answerOf (ledgerOf b) by to seq reply
+  unfoldable pub pzAnswer : Outcome
+  pzAnswer = answerOf (ledgerOf b) by to seq reply
 
-  unfoldable pub answerImage : List ℕ
-  answerImage = ledgerAfter b (answerFor .number) (answerFor .ledger) (ledgerOf b .count)
+  unfoldable pub pzAnswerImage : List ℕ
+  pzAnswerImage = ledgerAfter b (pzAnswer .refusal) (pzAnswer .ledger) (ledgerOf b .count)
 
 module _ (b : List ℕ) where
-  unfoldable pub tickFor : Ticked
-  tickFor = tickOf (ledgerOf b)
+  unfoldable pub pzTick : Ticked
+  pzTick = tickOf (ledgerOf b)
 
-  unfoldable pub tickImage : List ℕ
-  tickImage = ledgerAfter b (tickFor .number) (tickFor .ledger) (ledgerOf b .count)
+  unfoldable pub pzTickImage : List ℕ
+  pzTickImage = ledgerAfter b (pzTick .refusal) (pzTick .ledger) (ledgerOf b .count)
 
 module _ (b : List ℕ) (place : ℕ) where
-  unfoldable pub clearFor : Outcome
-  clearFor = clearOf (ledgerOf b) place
+  unfoldable pub pzClear : Outcome
+  pzClear = clearOf (ledgerOf b) place
 
-  unfoldable pub clearImage : List ℕ
-  clearImage = ledgerAfter b (clearFor .number) (clearFor .ledger) (ledgerOf b .count)
+  unfoldable pub pzClearImage : List ℕ
+  pzClearImage = ledgerAfter b (pzClear .refusal) (pzClear .ledger) (ledgerOf b .count)
 
 module _ (b f : List ℕ) (arrival : Port) (table : List ℕ) (ticks : ℕ) where
-  unfoldable pub acceptFor : Accepted
-  acceptFor = acceptOf (ledgerOf b) f arrival (tableOf table) ticks
+  unfoldable pub pzAccept : Added
+  pzAccept = acceptOf (ledgerOf b) f arrival (tableOf table) ticks
 
-  unfoldable pub acceptImage : List ℕ
-  acceptImage = ledgerAfter b (acceptFor .number) (acceptFor .ledger) (acceptFor .ledger .count)
+  unfoldable pub pzAcceptImage : List ℕ
+  pzAcceptImage = ledgerAfter b (pzAccept .refusal) (pzAccept .ledger) (pzAccept .ledger .count)

@@ -3,10 +3,10 @@ use address::Address;
 use address::Node;
 use address::Port;
 use address::Seq;
-use answer::Reply;
+use ledger_answer::Reply;
 ghost use mathlib.Core.Path.{_≡_};
 ghost use Rattle.address.specs.Address.{addressOf};
-ghost use Rattle.ledger_door.specs.Calls.{replyOf, answerFor, answerImage, tickFor, tickImage, clearFor, clearImage, acceptFor, acceptImage};
+ghost use Rattle.ledger_door.specs.Calls.{replyOf, pzAnswer, pzAnswerImage, pzTick, pzTickImage, pzClear, pzClearImage, pzAccept, pzAcceptImage};
 
 // Takes a frame that came in by the arrival port; `added` is how many legs were added.
 #[no_mangle]
@@ -18,14 +18,14 @@ pub extern "C" fn pz_accept(
     ticks: u16,
     added: &mut u8,
 ) -> u8
-    ensures { λ r. ⌜ (r ≡ acceptFor (now (ledger .entry)) (now (frame .entry)) (record { 0 = arrival }) (now (table .entry)) ticks .number) × (now (added .exit) ≡ acceptFor (now (ledger .entry)) (now (frame .entry)) (record { 0 = arrival }) (now (table .entry)) ticks .added) × (now (ledger .exit) ≡ acceptImage (now (ledger .entry)) (now (frame .entry)) (record { 0 = arrival }) (now (table .entry)) ticks) ⌝ }
+    ensures { λ r. ⌜ (r ≡ pzAccept (now (ledger .entry)) (now (frame .entry)) (record { 0 = arrival }) (now (table .entry)) ticks .refusal) × (now (added .exit) ≡ pzAccept (now (ledger .entry)) (now (frame .entry)) (record { 0 = arrival }) (now (table .entry)) ticks .added) × (now (ledger .exit) ≡ pzAcceptImage (now (ledger .entry)) (now (frame .entry)) (record { 0 = arrival }) (now (table .entry)) ticks) ⌝ }
 {
     let t = table_image::table_of(table);
     let l = ledger_image::ledger_of(ledger);
-    let after = accept::accept(l, frame, Port(arrival), t, ticks);
+    let after = ledger_accept::accept(l, frame, Port(arrival), t, ticks);
     *added = after.added;
     let m = after.ledger;
-    ledger_back::put_back(ledger, after.number, m, m.count)
+    ledger_image::put_back(ledger, after.refusal, m, m.count)
 }
 
 // The reply that three numbers of a call stand for.
@@ -53,7 +53,7 @@ pub extern "C" fn pz_answer(
     set: u8,
     code: u8,
 ) -> u8
-    ensures { λ r. ⌜ (r ≡ answerFor (now (ledger .entry)) (addressOf «by_brigade» «by_node» «by_port») (addressOf «to_brigade» «to_node» «to_port») (record { 0 = seq }) (replyOf nak set code) .number) × (now (ledger .exit) ≡ answerImage (now (ledger .entry)) (addressOf «by_brigade» «by_node» «by_port») (addressOf «to_brigade» «to_node» «to_port») (record { 0 = seq }) (replyOf nak set code)) ⌝ }
+    ensures { λ r. ⌜ (r ≡ pzAnswer (now (ledger .entry)) (addressOf «by_brigade» «by_node» «by_port») (addressOf «to_brigade» «to_node» «to_port») (record { 0 = seq }) (replyOf nak set code) .refusal) × (now (ledger .exit) ≡ pzAnswerImage (now (ledger .entry)) (addressOf «by_brigade» «by_node» «by_port») (addressOf «to_brigade» «to_node» «to_port») (record { 0 = seq }) (replyOf nak set code)) ⌝ }
 {
     let l = ledger_image::ledger_of(ledger);
     let by = Address {
@@ -67,30 +67,30 @@ pub extern "C" fn pz_answer(
         port: Port(to_port),
     };
     let reply = reply_of(nak, set, code);
-    let after = answer::answer(l, by, to, Seq(seq), reply);
+    let after = ledger_answer::answer(l, by, to, Seq(seq), reply);
     let m = after.ledger;
-    ledger_back::put_back(ledger, after.number, m, l.count)
+    ledger_image::put_back(ledger, after.refusal, m, l.count)
 }
 
 // One tick for every leg; `ended` is how many timed out.
 #[no_mangle]
 pub extern "C" fn pz_tick(ledger: &mut [u8], ended: &mut u8) -> u8
-    ensures { λ r. ⌜ (r ≡ tickFor (now (ledger .entry)) .number) × (now (ended .exit) ≡ tickFor (now (ledger .entry)) .ended) × (now (ledger .exit) ≡ tickImage (now (ledger .entry))) ⌝ }
+    ensures { λ r. ⌜ (r ≡ pzTick (now (ledger .entry)) .refusal) × (now (ended .exit) ≡ pzTick (now (ledger .entry)) .ended) × (now (ledger .exit) ≡ pzTickImage (now (ledger .entry))) ⌝ }
 {
     let l = ledger_image::ledger_of(ledger);
-    let after = tick::tick(l);
+    let after = ledger_tick::tick(l);
     *ended = after.ended;
     let m = after.ledger;
-    ledger_back::put_back(ledger, after.number, m, l.count)
+    ledger_image::put_back(ledger, after.refusal, m, l.count)
 }
 
 // Removes the settled leg at a place.
 #[no_mangle]
 pub extern "C" fn pz_clear(ledger: &mut [u8], place: usize) -> u8
-    ensures { λ r. ⌜ (r ≡ clearFor (now (ledger .entry)) place .number) × (now (ledger .exit) ≡ clearImage (now (ledger .entry)) place) ⌝ }
+    ensures { λ r. ⌜ (r ≡ pzClear (now (ledger .entry)) place .refusal) × (now (ledger .exit) ≡ pzClearImage (now (ledger .entry)) place) ⌝ }
 {
     let l = ledger_image::ledger_of(ledger);
-    let after = clear::clear(l, place);
+    let after = ledger_clear::clear(l, place);
     let m = after.ledger;
-    ledger_back::put_back(ledger, after.number, m, l.count)
+    ledger_image::put_back(ledger, after.refusal, m, l.count)
 }

@@ -7,14 +7,14 @@ use native.Mathlib.Omega.{arith}
 use lib.ListN.{length, getD, drop}
 use lib.Seq.{sets, length-sets, set-getD, getD-append-add}
 use borrow.Author.Tests.{le-leb}
-use Rattle.lists.specs.Bytes.{Bytes}
+use Rattle.buffer.specs.Bytes.{Bytes}
 use Rattle.lists.specs.Places.{anyBelow, elementAt, row, joined}
 use Rattle.lists.proofs.Places.{Agree, any-false, any-never, any-agree, row-at, row-agree, joined-agree, joined-at, length-joined}
 use Rattle.lists.proofs.Stores.{sets-append, sets-front}
 use Rattle.ledger.specs.declared.Ledger.{Ledger}
 use Rattle.ledger.specs.Rules.{noLeg, legAt}
 use Rattle.ledger_image.specs.Leg.{legBytes}
-use Rattle.ledger_image.specs.Ledger.{legCount, heldLeg, strayLegAt, readableLedger, ledgerIn, withLegs}
+use Rattle.ledger_image.specs.Ledger.{legCount, legHeld, strayLegHeld, readableLedger, ledgerIn, withLedger}
 use Rattle.ledger_image.specs.Promises.{LedgerUndo}
 use Rattle.ledger_image.proofs.LegLaws.{length-leg}
 use Rattle.ledger_image.proofs.LedgerLaws.{readable}
@@ -33,30 +33,30 @@ row-same f k w b at d (suc n) h =
     ∙ h n (omega arith)
 
 module _ (b : List ℕ) (bytes : Bytes b) (e : readableLedger b ≡ true) where
-  leg-same : (i : ℕ) → i < legCount b → sets b (1 + 15 * i) (legBytes (heldLeg b i)) ≡ b
-  unfolding heldLeg strayLegAt
-  leg-same i l = leg-undo .write b (1 + 15 * i) bytes (any-false (strayLegAt b) (legCount b) i (readable b e .none-stray) l)
+  leg-same : (i : ℕ) → i < legCount b → sets b (1 + 15 * i) (legBytes (legHeld b i)) ≡ b
+  unfolding legHeld strayLegHeld
+  leg-same i l = leg-undo .write b (1 + 15 * i) bytes (any-false (strayLegHeld b) (legCount b) i (readable b e .none-stray) l)
 
-  written-back : withLegs b (ledgerIn b) (legCount b) ≡ b
-  unfolding withLegs ledgerIn legAt
+  written-back : withLedger b (ledgerIn b) (legCount b) ≡ b
+  unfolding withLedger ledgerIn legAt
   written-back =
       let n = legCount b in
-      let d = elementAt noLeg (row 128 noLeg (heldLeg b) n) in
+      let d = elementAt noLeg (row 128 noLeg (legHeld b) n) in
       ap (λ (x : List ℕ). sets x 1 (joined legBytes d n)) (set-getD b 0 0)
-      ∙ ap (sets b 1) (sym (joined-agree legBytes (heldLeg b) d n (row-at 128 noLeg (heldLeg b) n)))
-      ∙ row-same legBytes 15 length-leg b 1 (heldLeg b) n leg-same
+      ∙ ap (sets b 1) (sym (joined-agree legBytes (legHeld b) d n (row-at 128 noLeg (legHeld b) n)))
+      ∙ row-same legBytes 15 length-leg b 1 (legHeld b) n leg-same
 
 -- ---- what was written, read
 
 module _ (b : List ℕ) (l : Ledger) (n : ℕ) (room : 1921 ≤ length b) (counts : l .count ≤ n) (few : n ≤ 128) where
   image : List ℕ
-  image = withLegs b l n
+  image = withLedger b l n
 
   rest : List ℕ
   rest = drop (length (l .count ∷ joined legBytes (legAt l) n)) b
 
   image-is : image ≡ (l .count ∷ []) ++ (joined legBytes (legAt l) n ++ rest)
-  unfolding image rest withLegs
+  unfolding image rest withLedger
   image-is = sets-front b (l .count ∷ joined legBytes (legAt l) n) (omega (arith, length-joined legBytes 15 length-leg (legAt l) n))
 
   count-back : legCount image ≡ l .count
@@ -69,18 +69,18 @@ module _ (b : List ℕ) (l : Ledger) (n : ℕ) (room : 1921 ≤ length b) (count
       rw (image-is, e) (getD-append-add (l .count ∷ []) (joined legBytes (legAt l) n ++ rest) (15 * i + k) 0
       ∙ joined-at legBytes 15 length-leg (legAt l) n i k h m rest)
 
-  legs-back : Agree (heldLeg image) (legAt l) (l .count)
-  unfolding heldLeg
+  legs-back : Agree (legHeld image) (legAt l) (l .count)
+  unfolding legHeld
   legs-back i h = leg-back (legAt l i) image (1 + 15 * i) (stands i (omega arith))
 
-  none-stray : anyBelow (strayLegAt image) (l .count) ≡ false
-  unfolding strayLegAt
+  none-stray : anyBelow (strayLegHeld image) (l .count) ≡ false
+  unfolding strayLegHeld
   none-stray =
-      any-agree (strayLegAt image) (λ i. false) (l .count) (λ i h. leg-known (legAt l i) image (1 + 15 * i) (stands i (omega arith)))
+      any-agree (strayLegHeld image) (λ i. false) (l .count) (λ i h. leg-known (legAt l i) image (1 + 15 * i) (stands i (omega arith)))
       ∙ any-never (λ i. false) (λ i. refl) (l .count)
 
   long-enough : 1921 ≤ length image
-  unfolding image withLegs
+  unfolding image withLedger
   long-enough = rw length-sets room
 
   read-again : readableLedger image ≡ true
@@ -89,7 +89,7 @@ module _ (b : List ℕ) (l : Ledger) (n : ℕ) (room : 1921 ≤ length b) (count
 
   legs-again : ledgerIn image ≡ record { count = l .count; legs = row 128 noLeg (legAt l) (l .count) }
   unfolding ledgerIn
-  legs-again = rw (count-back, row-agree 128 noLeg (heldLeg image) (legAt l) (l .count) legs-back)
+  legs-again = rw (count-back, row-agree 128 noLeg (legHeld image) (legAt l) (l .count) legs-back)
 
 pub ledger-undo : LedgerUndo
 unfolding image

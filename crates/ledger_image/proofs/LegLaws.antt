@@ -9,7 +9,7 @@ use lib.ListN.{length, getD}
 use Rattle.ledger.specs.declared.Standing.{Standing}
 use Rattle.ledger.specs.declared.Standing.the-variants.{Open, Acknowledged, Refused, Undeliverable, TimedOut}
 use Rattle.ledger.specs.declared.Leg.{Leg}
-use Rattle.address.specs.Wide.{addressBytes}
+use Rattle.address_bytes.specs.Wide.{addressBytes}
 use Rattle.ledger_image.specs.Leg.{standingBytes, strayStanding, legBytes}
 
 -- the tests of a standing's bytes, in the code's order

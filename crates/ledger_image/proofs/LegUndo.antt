@@ -9,17 +9,17 @@ use lib.Dec.{eqb}
 use lib.ListN.{length, getD, take, drop, set, List·getD-append}
 use lib.Seq.{sets, sets-eq, set-getD, getD-append-add, length-take-le}
 use borrow.Author.Tests.{eqb-true, ltb-false, not-false}
-use Rattle.lists.specs.Bytes.{Bytes, wordAt}
+use Rattle.buffer.specs.Bytes.{Bytes, wordAt}
 use Rattle.lists.specs.Places.{firsts}
 use Rattle.lists.proofs.Bools.{and-left, and-right, or-no-left}
 use Rattle.lists.proofs.Places.{firsts-at}
 use Rattle.ledger.specs.declared.Standing.{Standing}
 use Rattle.ledger.specs.declared.Standing.the-variants.{Open, Acknowledged, Refused, Undeliverable, TimedOut}
 use Rattle.ledger.specs.declared.Leg.{Leg}
-use Rattle.address.specs.Wide.{addressIn}
+use Rattle.address_bytes.specs.Wide.{addressIn}
 use Rattle.ledger_image.specs.Leg.{standingBytes, standingOf, strayStanding, legBytes, legIn, strayLegIn}
 use Rattle.ledger_image.specs.Promises.{LegUndo}
-use Rattle.wide.proofs.Laws.{word-back, address-back}
+use Rattle.address_bytes.proofs.WideLaws.{word-back, address-back}
 use Rattle.ledger_image.proofs.LegLaws.{length-leg}
 
 -- ---- stores

@@ -15,6 +15,13 @@ use Rattle.ledger_image.specs.Leg.{legBytes, legIn, strayLegIn}
 abbrev pub ledgerSize : ℕ
 ledgerSize = 1921
 
+-- where the legs begin, and the bytes of each
+abbrev pub legsStart : ℕ
+legsStart = 1
+
+abbrev pub legSize : ℕ
+legSize = 15
+
 -- ---- the ledger in an image
 
 -- how many of its legs count
@@ -22,20 +29,20 @@ abbrev pub legCount : List ℕ → ℕ
 legCount b = getD b 0 0
 
 -- the leg at place i
-unfoldable pub heldLeg : List ℕ → ℕ → Leg
-heldLeg b i = legIn b (1 + 15 * i)
+unfoldable pub legHeld : List ℕ → ℕ → Leg
+legHeld b i = legIn b (legsStart + legSize * i)
 
 -- the bytes at place i are no leg's
-unfoldable pub strayLegAt : List ℕ → ℕ → Bool
-strayLegAt b i = strayLegIn b (1 + 15 * i)
+unfoldable pub strayLegHeld : List ℕ → ℕ → Bool
+strayLegHeld b i = strayLegIn b (legsStart + legSize * i)
 
 -- the image can be read: it is long enough, counts at most 128 legs, and none that counts is stray
 unfoldable pub readableLedger : List ℕ → Bool
-readableLedger b = leb ledgerSize (length b) && leb (legCount b) mostLegs && not (anyBelow (strayLegAt b) (legCount b))
+readableLedger b = leb ledgerSize (length b) && leb (legCount b) mostLegs && not (anyBelow (strayLegHeld b) (legCount b))
 
 -- the ledger in it: places past the count are not looked at, and hold no leg
 unfoldable pub ledgerIn : List ℕ → Ledger
-ledgerIn b = record { count = legCount b; legs = row mostLegs noLeg (heldLeg b) (legCount b) }
+ledgerIn b = record { count = legCount b; legs = row mostLegs noLeg (legHeld b) (legCount b) }
 
 -- a ledger with one leg too many
 abbrev pub brokenLedger : Ledger
@@ -46,9 +53,9 @@ unfoldable pub ledgerOf : List ℕ → Ledger
 ledgerOf b = cond (readableLedger b) (ledgerIn b) brokenLedger
 
 -- the image with a ledger's count and its first n legs written into it; every other byte is as it was
-unfoldable pub withLegs : List ℕ → Ledger → ℕ → List ℕ
-withLegs b l n = sets b 0 (l .count ∷ joined legBytes (legAt l) n)
+unfoldable pub withLedger : List ℕ → Ledger → ℕ → List ℕ
+withLedger b l n = sets b 0 (l .count ∷ joined legBytes (legAt l) n)
 
 -- the image after a call that gave this number and this ledger: a refusal leaves it, else the first n legs are written (a ledger has 128 places)
 unfoldable pub ledgerAfter : List ℕ → ℕ → Ledger → ℕ → List ℕ
-ledgerAfter b number l n = unlessRefused number (withLegs b l (min n mostLegs)) b
+ledgerAfter b refusal l n = unlessRefused refusal (withLedger b l (min n mostLegs)) b

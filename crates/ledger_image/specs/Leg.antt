@@ -5,11 +5,11 @@ use mathlib.Core.Bool.{Bool, not, _&&_, _||_, cond}
 use mathlib.Core.List.{List, [], _∷_, _++_}
 use lib.Dec.{eqb, ltb}
 use lib.ListN.{getD}
-use Rattle.lists.specs.Bytes.{wordAt, wordBytes}
+use Rattle.buffer.specs.Bytes.{wordAt, wordBytes}
 use Rattle.ledger.specs.declared.Standing.{Standing}
 use Rattle.ledger.specs.declared.Standing.the-variants.{Open, Acknowledged, Refused, Undeliverable, TimedOut}
 use Rattle.ledger.specs.declared.Leg.{Leg}
-use Rattle.address.specs.Wide.{addressBytes, addressIn}
+use Rattle.address_bytes.specs.Wide.{addressBytes, addressIn}
 
 -- ---- a standing with its reason, 3 bytes
 

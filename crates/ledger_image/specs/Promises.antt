@@ -5,13 +5,13 @@ use mathlib.Core.List.{List}
 use Prim.Native.Nat.{ℕ, _+_, _≤_}
 use lib.ListN.{length}
 use lib.Seq.{sets}
-use Rattle.lists.specs.Bytes.{Bytes}
+use Rattle.buffer.specs.Bytes.{Bytes}
 use Rattle.lists.specs.Places.{row}
 use Rattle.ledger.specs.declared.Leg.{Leg}
 use Rattle.ledger.specs.declared.Ledger.{Ledger}
 use Rattle.ledger.specs.Rules.{mostLegs, noLeg, legAt}
 use Rattle.ledger_image.specs.Leg.{legBytes, legIn, strayLegIn}
-use Rattle.ledger_image.specs.Ledger.{ledgerSize, legCount, readableLedger, ledgerIn, withLegs}
+use Rattle.ledger_image.specs.Ledger.{ledgerSize, legCount, readableLedger, ledgerIn, withLedger}
 
 -- a leg and its 15 bytes undo each other, at any place of an image
 pub record LegUndo : Type 0 where
@@ -24,8 +24,8 @@ pub record LegUndo : Type 0 where
 -- a ledger and its image undo each other
 pub record LedgerUndo : Type 0 where
   -- what was read, written back, leaves every byte
-  pub write : (b : List ℕ) → Bytes b → readableLedger b ≡ true → withLegs b (ledgerIn b) (legCount b) ≡ b
+  pub write : (b : List ℕ) → Bytes b → readableLedger b ≡ true → withLedger b (ledgerIn b) (legCount b) ≡ b
   -- what was written can be read, and gives the legs that count back, and no leg at the other places
-  pub readable : (b : List ℕ) (l : Ledger) (n : ℕ) → ledgerSize ≤ length b → l .count ≤ n → n ≤ mostLegs → readableLedger (withLegs b l n) ≡ true
+  pub readable : (b : List ℕ) (l : Ledger) (n : ℕ) → ledgerSize ≤ length b → l .count ≤ n → n ≤ mostLegs → readableLedger (withLedger b l n) ≡ true
   pub read : (b : List ℕ) (l : Ledger) (n : ℕ) → ledgerSize ≤ length b → l .count ≤ n → n ≤ mostLegs
-      → ledgerIn (withLegs b l n) ≡ record { count = l .count; legs = row mostLegs noLeg (legAt l) (l .count) }
+      → ledgerIn (withLedger b l n) ≡ record { count = l .count; legs = row mostLegs noLeg (legAt l) (l .count) }

@@ -1,4 +1,4 @@
-// The image of a ledger, 1,921 bytes: whether it can be read, and the ledger in it. `ledger_back` puts a ledger back after a call.
+// The image of a ledger, 1,921 bytes: whether it can be read, the ledger in it, and a ledger put back into it after a call.
 use ledger::Ledger;
 use ledger::MOST_LEGS;
 use legs::leg_in;
@@ -7,20 +7,29 @@ ghost use mathlib.Core.Path.{_≡_};
 ghost use Prim.Native.Nat.{_≤_};
 ghost use lib.ListN.{length};
 ghost use Rattle.lists.specs.Places.{anyBelow};
-ghost use Rattle.ledger_image.specs.Ledger.{strayLegAt, readableLedger, ledgerOf};
+ghost use Rattle.ledger_image.specs.Ledger.{ledgerSize, strayLegHeld, readableLedger, ledgerOf};
+ghost use Rattle.ledger.specs.Rules.{mostLegs};
 
+mod back;
 mod legs;
+
+pub use back::put_back;
 
 const LEDGER_SIZE: usize = 1921;
 
+// Where the legs begin, and the bytes of each.
+const LEGS_START: usize = 1;
+
+const LEG_SIZE: usize = 15;
+
 // Whether one of the first n places holds bytes that are no leg's.
 fn any_stray(b: &[u8], n: usize) -> bool
-    requires { ⌜ (n ≤ 128) × (1921 ≤ length (now b)) ⌝ }
-    ensures { λ r. ⌜ r ≡ anyBelow (strayLegAt (now (b .entry))) n ⌝ }
+    requires { ⌜ (n ≤ mostLegs) × (ledgerSize ≤ length (now b)) ⌝ }
+    ensures { λ r. ⌜ r ≡ anyBelow (strayLegHeld (now (b .entry))) n ⌝ }
 {
     let mut i = 0;
     while i < n {
-        if stray_leg(b, 1 + 15 * i) {
+        if stray_leg(b, LEGS_START + LEG_SIZE * i) {
             return true;
         }
         i += 1;
@@ -58,7 +67,7 @@ pub fn ledger_of(b: &[u8]) -> Ledger
     let n = count as usize;
     let mut i = 0;
     while i < n {
-        let g = leg_in(b, 1 + 15 * i);
+        let g = leg_in(b, LEGS_START + LEG_SIZE * i);
         legs[i] = g;
         i += 1;
     }

@@ -17,24 +17,24 @@ use Rattle.address.specs.declared.Address.{Address}
 use Rattle.address.specs.Address.{inRange, sameAddress}
 use Rattle.address.proofs.Laws.{same-refl}
 use Rattle.envelope.specs.declared.Fixed.{Fixed}
-use Rattle.envelope.specs.Frame.{partAt, fieldsOf, destinationAt}
+use Rattle.envelope.specs.Frame.{destinationsOffset, fieldsOf, destinationAt}
 use Rattle.envelope.proofs.Laws.{accepted, Ranged, ranged}
-use Rattle.route.specs.declared.Table.{Table}
-use Rattle.route.specs.Route.{chooseOf}
+use Rattle.table.specs.declared.Table.{Table}
+use Rattle.table.specs.Table.{chooseOf}
 use Rattle.ledger.specs.declared.Standing.the-variants.{Open, Undeliverable, TimedOut}
 use Rattle.ledger.specs.declared.Leg.{Leg}
 use Rattle.ledger.specs.declared.Ledger.{Ledger}
-use Rattle.ledger.specs.Rules.{legAt, isOpen, alike, ticksRight, legRight, obeys}
+use Rattle.ledger.specs.Rules.{legAt, isOpen, alike, ticksObey, legObeys, obeys}
 use Rattle.ledger.proofs.Laws.{right, Obedient}
-use Rattle.answer.specs.declared.Reply.{Reply}
-use Rattle.answer.specs.declared.Reply.the-variants.{Ack, Nak}
-use Rattle.answer.specs.Answer.{standingFor, settled, withLeg, answeredPlace, answerNumber, answerOf}
-use Rattle.tick.specs.Tick.{ticked, tickedLedger, tickNumber, tickOf}
-use Rattle.clear.specs.Clear.{closeUp, clearNumber, clearOf}
-use Rattle.accept.specs.Accept.{openFrom, openFromAt, unrouted, legFor, legForAt, withLegs, acceptNumber, acceptOf}
-use Rattle.accept.proofs.Laws.{Roomy}
+use Rattle.ledger_answer.specs.declared.Reply.{Reply}
+use Rattle.ledger_answer.specs.declared.Reply.the-variants.{Ack, Nak}
+use Rattle.ledger_answer.specs.Answer.{standingFor, settled, withLeg, answeredPlace, answerRefusal, answerOf}
+use Rattle.ledger_tick.specs.Tick.{tickedLeg, tickedLedger, tickRefusal, tickOf}
+use Rattle.ledger_clear.specs.Clear.{closeUp, clearRefusal, clearOf}
+use Rattle.ledger_accept.specs.Accept.{isOpenFrom, isOpenFromAt, isUnrouted, legFor, legForAt, withLegs, acceptRefusal, acceptOf}
+use Rattle.ledger_accept.proofs.Laws.{Roomy}
 use Rattle.ledger_laws.specs.Promises.{Whole}
-use Rattle.ledger_laws.proofs.Rules.{alike-is, is-alike, not-so, leg-right, apart-at, obeys-from}
+use Rattle.ledger_laws.proofs.Rules.{alike-is, is-alike, not-so, leg-obeys, apart-at, obeys-from}
 use Rattle.ledger_laws.proofs.Places.{answer-rules, answer-found, answer-after, answer-at, answer-other, tick-rules, tick-after, tick-at, clear-rules, clear-within, clear-after, clear-before, clear-moved, frame-taken, accept-call, accept-rules, accept-quiet-after, accept-room, accept-after, accept-before, accept-new}
 
 -- a leg that is not open is alike to none
@@ -52,17 +52,17 @@ unfolding standingFor isOpen
 reply-settles Ack = refl
 reply-settles (Nak set code) = refl
 
-settled-right : (r : Reply) (g : Leg) → legRight g ≡ true → legRight (settled r g) ≡ true
-unfolding settled ticksRight
+settled-right : (r : Reply) (g : Leg) → legObeys g ≡ true → legObeys (settled r g) ≡ true
+unfolding settled ticksObey
 settled-right r g h =
     let p = right g h in
-    leg-right (settled r g) (record { ticks = rw (reply-settles r) refl; source = p .source; destination = p .destination; seq = p .seq })
+    leg-obeys (settled r g) (record { ticks = rw (reply-settles r) refl; source = p .source; destination = p .destination; seq = p .seq })
 
 settled-closed : (r : Reply) (g : Leg) → isOpen (settled r g .standing) ≡ false
 unfolding settled
 settled-closed r g = reply-settles r
 
-module _ (l : Ledger) (by to : Address) (seq : Seq) (reply : Reply) (whole : Whole l) (z : answerNumber l by to seq ≡ 0) where
+module _ (l : Ledger) (by to : Address) (seq : Seq) (reply : Reply) (whole : Whole l) (z : answerRefusal l by to seq ≡ 0) where
   abbrev after-answer : Ledger
   after-answer = answerOf l by to seq reply .ledger
 
@@ -73,10 +73,10 @@ module _ (l : Ledger) (by to : Address) (seq : Seq) (reply : Reply) (whole : Who
   unfolding withLeg
   same-count = ap (λ (m : Ledger). m .count) (answer-after l by to seq reply whole z)
 
-  each : (i : ℕ) → i < l .count → legRight (legAt after-answer i) ≡ true
+  each : (i : ℕ) → i < l .count → legObeys (legAt after-answer i) ≡ true
   each i h = go (ℕ-discrete i k)
     where
-      go : Dec (i ≡ k) → legRight (legAt after-answer i) ≡ true
+      go : Dec (i ≡ k) → legObeys (legAt after-answer i) ≡ true
       go (yes e) = rw (e, answer-at l by to seq reply whole z) (settled-right reply (legAt l k) (answer-rules l by to seq reply whole z .each k (answer-found l by to seq reply whole z .below)))
       go (no ne) = rw (answer-other l by to seq reply whole z i ne) (answer-rules l by to seq reply whole z .each i h)
 
@@ -99,8 +99,8 @@ module _ (l : Ledger) (by to : Address) (seq : Seq) (reply : Reply) (whole : Who
 -- by the standing and the ticks left
 module _ {A : Type 0} (field : Leg → A) (g : Leg) where
   ticked-field : field (record { source = g .source; destination = g .destination; seq = g .seq; ticks = 0; standing = TimedOut }) ≡ field g
-      → field (record { source = g .source; destination = g .destination; seq = g .seq; ticks = g .ticks - 1; standing = g .standing }) ≡ field g → field (ticked g) ≡ field g
-  unfolding ticked
+      → field (record { source = g .source; destination = g .destination; seq = g .seq; ticks = g .ticks - 1; standing = g .standing }) ≡ field g → field (tickedLeg g) ≡ field g
+  unfolding tickedLeg
   ticked-field a b = go (isOpen (g .standing)) (leb (g .ticks) 1)
     where
       go : (x y : Bool)
@@ -110,8 +110,8 @@ module _ {A : Type 0} (field : Leg → A) (g : Leg) where
       go false y = refl
 
 -- a leg that is open after a tick was open before it
-still : (g : Leg) → isOpen (ticked g .standing) ≡ true → isOpen (g .standing) ≡ true
-unfolding ticked
+still : (g : Leg) → isOpen (tickedLeg g .standing) ≡ true → isOpen (g .standing) ≡ true
+unfolding tickedLeg
 still g h = go (isOpen (g .standing)) refl h
   where
     go : (x : Bool) → isOpen (g .standing) ≡ x → isOpen (cond x (cond (leb (g .ticks) 1) (record { source = g .source; destination = g .destination; seq = g .seq; ticks = 0; standing = TimedOut }) (record { source = g .source; destination = g .destination; seq = g .seq; ticks = g .ticks - 1; standing = g .standing })) g .standing) ≡ true → x ≡ true
@@ -119,44 +119,44 @@ still g h = go (isOpen (g .standing)) refl h
     go false e t = sym e ∙ t
 
 -- and is the same but for its ticks
-ticked-alike : (g h : Leg) → alike (ticked g) (ticked h) ≡ true → alike g h ≡ true
+ticked-alike : (g h : Leg) → alike (tickedLeg g) (tickedLeg h) ≡ true → alike g h ≡ true
 ticked-alike g h e =
-    let a = alike-is (ticked g) (ticked h) e in
-    let source : (x : Leg) → ticked x .source ≡ x .source = λ x. ticked-field (λ (y : Leg). y .source) x refl refl in
-    let destination : (x : Leg) → ticked x .destination ≡ x .destination = λ x. ticked-field (λ (y : Leg). y .destination) x refl refl in
-    let number : (x : Leg) → ticked x .seq .0 ≡ x .seq .0 = λ x. ticked-field (λ (y : Leg). y .seq .0) x refl refl in
+    let a = alike-is (tickedLeg g) (tickedLeg h) e in
+    let source : (x : Leg) → tickedLeg x .source ≡ x .source = λ x. ticked-field (λ (y : Leg). y .source) x refl refl in
+    let destination : (x : Leg) → tickedLeg x .destination ≡ x .destination = λ x. ticked-field (λ (y : Leg). y .destination) x refl refl in
+    let refusal : (x : Leg) → tickedLeg x .seq .0 ≡ x .seq .0 = λ x. ticked-field (λ (y : Leg). y .seq .0) x refl refl in
     is-alike g h (record {
       first = still g (a .first);
       second = record {
         is-open = still h (a .second .is-open);
         from = sym (source h) ∙ a .second .from ∙ source g;
         to = sym (destination h) ∙ a .second .to ∙ destination g;
-        numbered = sym (number h) ∙ a .second .numbered ∙ number g;
+        numbered = sym (refusal h) ∙ a .second .numbered ∙ refusal g;
       };
     })
 
 -- a leg that a tick leaves open has ticks left, and one that it ends has none
-ticks-right : (g : Leg) → ticksRight g ≡ true → ticksRight (ticked g) ≡ true
-unfolding ticksRight ticked isOpen
+ticks-right : (g : Leg) → ticksObey g ≡ true → ticksObey (tickedLeg g) ≡ true
+unfolding ticksObey tickedLeg isOpen
 ticks-right g h = go (isOpen (g .standing)) refl (leb (g .ticks) 1) refl
   where
     go : (x : Bool) → isOpen (g .standing) ≡ x → (y : Bool) → leb (g .ticks) 1 ≡ y
-        → ticksRight (cond x (cond y (record { source = g .source; destination = g .destination; seq = g .seq; ticks = 0; standing = TimedOut }) (record { source = g .source; destination = g .destination; seq = g .seq; ticks = g .ticks - 1; standing = g .standing })) g) ≡ true
+        → ticksObey (cond x (cond y (record { source = g .source; destination = g .destination; seq = g .seq; ticks = 0; standing = TimedOut }) (record { source = g .source; destination = g .destination; seq = g .seq; ticks = g .ticks - 1; standing = g .standing })) g) ≡ true
     go true e true f = refl
     go true e false f = rw (e, lt-ltb 0 (g .ticks - 1) (omega (arith, leb-false (g .ticks) 1 f)))
     go false e y f = h
 
-ticked-right : (g : Leg) → legRight g ≡ true → legRight (ticked g) ≡ true
+ticked-right : (g : Leg) → legObeys g ≡ true → legObeys (tickedLeg g) ≡ true
 ticked-right g h =
     let p = right g h in
-    leg-right (ticked g) (record {
+    leg-obeys (tickedLeg g) (record {
       ticks = ticks-right g (p .ticks);
       source = ap inRange (ticked-field (λ (y : Leg). y .source) g refl refl) ∙ p .source;
       destination = ap inRange (ticked-field (λ (y : Leg). y .destination) g refl refl) ∙ p .destination;
       seq = rw (ticked-field (λ (y : Leg). y .seq .0) g refl refl) (p .seq);
     })
 
-module _ (l : Ledger) (whole : Whole l) (z : tickNumber l ≡ 0) where
+module _ (l : Ledger) (whole : Whole l) (z : tickRefusal l ≡ 0) where
   tick-count : tickOf l .ledger .count ≡ l .count
   unfolding tickedLedger
   tick-count = ap (λ (m : Ledger). m .count) (tick-after l whole z)
@@ -171,11 +171,11 @@ module _ (l : Ledger) (whole : Whole l) (z : tickNumber l ≡ 0) where
       (λ i j h m.
       let k : i < l .count = rw tick-count at h in
       rw (tick-at l whole z i k, tick-at l whole z j (omega arith))
-      (not-so (alike (ticked (legAt l i)) (ticked (legAt l j))) _ (ticked-alike (legAt l i) (legAt l j)) (apart-at l o i j k (omega arith) (λ e. omega arith))))
+      (not-so (alike (tickedLeg (legAt l i)) (tickedLeg (legAt l j))) _ (ticked-alike (legAt l i) (legAt l j)) (apart-at l o i j k (omega arith) (λ e. omega arith))))
 
 -- ---- clear
 
-module _ (l : Ledger) (place : ℕ) (whole : Whole l) (z : clearNumber l place ≡ 0) where
+module _ (l : Ledger) (place : ℕ) (whole : Whole l) (z : clearRefusal l place ≡ 0) where
   pub clear-count : suc (clearOf l place .ledger .count) ≡ l .count
   unfolding closeUp
   clear-count =
@@ -231,29 +231,29 @@ module _ (e : Fixed) (arrival : Port) (t : Table) (ticks : ℕ) (d : Address) wh
   leg-field : {A : Type 0} (field : Leg → A) (a : A) → field (record { source = e .source; destination = d; seq = e .seq; ticks = 0; standing = Undeliverable }) ≡ a
       → field (record { source = e .source; destination = d; seq = e .seq; ticks = ticks; standing = Open }) ≡ a → field (legFor e arrival t ticks d) ≡ a
   unfolding legFor
-  leg-field field a p q = go (unrouted (chooseOf t d arrival))
+  leg-field field a p q = go (isUnrouted (chooseOf t d arrival))
     where
       go : (b : Bool) → field (cond b (record { source = e .source; destination = d; seq = e .seq; ticks = 0; standing = Undeliverable }) (record { source = e .source; destination = d; seq = e .seq; ticks = ticks; standing = Open })) ≡ a
       go true = p
       go false = q
 
-  new-right : inRange (e .source) ≡ true → inRange d ≡ true → e .seq .0 ≤ 32767 → (ticks ≡ 0 → ⊥) → legRight (legFor e arrival t ticks d) ≡ true
-  unfolding ticksRight isOpen
+  new-right : inRange (e .source) ≡ true → inRange d ≡ true → e .seq .0 ≤ 32767 → (ticks ≡ 0 → ⊥) → legObeys (legFor e arrival t ticks d) ≡ true
+  unfolding ticksObey isOpen
   new-right s r n lasting =
       let g = legFor e arrival t ticks d in
-      leg-right g (record {
-        ticks = leg-field ticksRight true refl (lt-ltb 0 ticks (omega (arith, lasting)));
+      leg-obeys g (record {
+        ticks = leg-field ticksObey true refl (lt-ltb 0 ticks (omega (arith, lasting)));
         source = ap inRange (leg-field (λ (y : Leg). y .source) (e .source) refl refl) ∙ s;
         destination = ap inRange (leg-field (λ (y : Leg). y .destination) d refl refl) ∙ r;
         seq = rw (leg-field (λ (y : Leg). y .seq .0) (e .seq .0) refl refl) n;
       })
 
 -- an open leg with a source and a number
-from-source : (source : Address) (seq : Seq) (g : Leg) → isOpen (g .standing) ≡ true → g .source ≡ source → g .seq .0 ≡ seq .0 → openFrom source seq g ≡ true
-unfolding openFrom
+from-source : (source : Address) (seq : Seq) (g : Leg) → isOpen (g .standing) ≡ true → g .source ≡ source → g .seq .0 ≡ seq .0 → isOpenFrom source seq g ≡ true
+unfolding isOpenFrom
 from-source source seq g o p n = and-both (and-both o (ap (sameAddress (g .source)) (sym p) ∙ same-refl (g .source))) (eq-eqb _ _ n)
 
-module _ (l : Ledger) (f : List ℕ) (arrival : Port) (t : Table) (ticks : ℕ) (whole : Whole l) (z : acceptNumber l f arrival t ticks ≡ 0) where
+module _ (l : Ledger) (f : List ℕ) (arrival : Port) (t : Table) (ticks : ℕ) (whole : Whole l) (z : acceptRefusal l f arrival t ticks ≡ 0) where
   abbrev after-accept : Ledger
   after-accept = acceptOf l f arrival t ticks .ledger
 
@@ -261,7 +261,7 @@ module _ (l : Ledger) (f : List ℕ) (arrival : Port) (t : Table) (ticks : ℕ) 
   e = fieldsOf f
 
   abbrev d : ℕ → Address
-  d = destinationAt (drop partAt f)
+  d = destinationAt (drop destinationsOffset f)
 
   pub in-order : Ranged e d
   in-order = ranged e d (accepted f (frame-taken l f arrival t ticks whole z) .values .inside)
@@ -294,10 +294,10 @@ module _ (l : Ledger) (f : List ℕ) (arrival : Port) (t : Table) (ticks : ℕ) 
     unfolding legForAt
     new-at i k q h = rw q (accept-new l f arrival t ticks whole z asked k h)
 
-    each-right : (i : ℕ) → i < l .count + e .count → legRight (legAt after-accept i) ≡ true
+    each-right : (i : ℕ) → i < l .count + e .count → legObeys (legAt after-accept i) ≡ true
     each-right i h = go (decLt i (l .count))
       where
-        go : Dec (i < l .count) → legRight (legAt after-accept i) ≡ true
+        go : Dec (i < l .count) → legObeys (legAt after-accept i) ≡ true
         go (yes p) = rw (old-at i p) (rules .each i p)
         go (no p) =
             let k = i - l .count in
@@ -305,15 +305,15 @@ module _ (l : Ledger) (f : List ℕ) (arrival : Port) (t : Table) (ticks : ℕ) 
 
     -- an old leg with the source and the number of a new one is not open
     old-new : (j k : ℕ) → j < l .count → alike (new k) (legAt l j) ≡ false
-    unfolding openFromAt
+    unfolding isOpenFromAt
     old-new j k h =
-        not-so (alike (new k) (legAt l j)) (openFromAt l (e .source) (e .seq) j)
+        not-so (alike (new k) (legAt l j)) (isOpenFromAt l (e .source) (e .seq) j)
         (λ a.
         let s = alike-is (new k) (legAt l j) a .second in
         from-source (e .source) (e .seq) (legAt l j) (s .is-open)
         (s .from ∙ leg-field e arrival t ticks (d k) (λ (y : Leg). y .source) (e .source) refl refl)
         (s .numbered ∙ leg-field e arrival t ticks (d k) (λ (y : Leg). y .seq .0) (e .seq .0) refl refl))
-        (any-false (openFromAt l (e .source) (e .seq)) (l .count) j (room .fresh) h)
+        (any-false (isOpenFromAt l (e .source) (e .seq)) (l .count) j (room .fresh) h)
 
     -- two new legs have different destinations
     new-new : (k m : ℕ) → k < e .count → m < k → alike (new k) (new m) ≡ false

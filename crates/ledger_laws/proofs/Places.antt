@@ -18,30 +18,30 @@ use Rattle.lists.proofs.Refusals.{pass, or-pass, taken}
 use Rattle.address.specs.declared.Port.{Port}
 use Rattle.address.specs.declared.Seq.{Seq}
 use Rattle.address.specs.declared.Address.{Address}
-use Rattle.envelope.specs.Frame.{partAt, fieldsOf, destinationAt}
-use Rattle.envelope.specs.Refusal.{strayAt, refusalOf}
-use Rattle.route.specs.declared.Table.{Table}
+use Rattle.envelope.specs.Frame.{destinationsOffset, fieldsOf, destinationAt}
+use Rattle.envelope.specs.Refusal.{strayAt, frameRefusal}
+use Rattle.table.specs.declared.Table.{Table}
 use Rattle.ledger.specs.declared.Leg.{Leg}
 use Rattle.ledger.specs.declared.Ledger.{Ledger}
 use Rattle.ledger.specs.Rules.{noLeg, legAt, obeys}
 use Rattle.ledger.proofs.Laws.{Obedient, obedient}
-use Rattle.answer.specs.declared.Reply.{Reply}
-use Rattle.answer.specs.Answer.{settled, withLeg, answeredAt, answeredPlace, answerNumber, answerOf}
-use Rattle.tick.specs.Tick.{ticked, tickedLedger, tickNumber, tickOf}
-use Rattle.clear.specs.Clear.{closeUp, settledAt, clearNumber, clearOf}
-use Rattle.accept.specs.Accept.{legForAt, withLegs, callRefusal, acceptNumber, acceptOf}
-use Rattle.accept.proofs.Laws.{Called, called, Roomy, roomy}
+use Rattle.ledger_answer.specs.declared.Reply.{Reply}
+use Rattle.ledger_answer.specs.Answer.{settled, withLeg, answeredAt, answeredPlace, answerRefusal, answerOf}
+use Rattle.ledger_tick.specs.Tick.{tickedLeg, tickedLedger, tickRefusal, tickOf}
+use Rattle.ledger_clear.specs.Clear.{closeUp, settledAt, clearRefusal, clearOf}
+use Rattle.ledger_accept.specs.Accept.{legForAt, withLegs, callRefusal, acceptRefusal, acceptOf}
+use Rattle.ledger_accept.proofs.Laws.{Called, called, Roomy, roomy}
 use Rattle.ledger_laws.specs.Promises.{Whole}
 
 -- ---- answer
 
-module _ (l : Ledger) (by to : Address) (seq : Seq) (reply : Reply) (whole : Whole l) (z : answerNumber l by to seq ≡ 0) where
+module _ (l : Ledger) (by to : Address) (seq : Seq) (reply : Reply) (whole : Whole l) (z : answerRefusal l by to seq ≡ 0) where
   pub answer-rules : Obedient l
-  unfolding answerNumber
+  unfolding answerRefusal
   answer-rules = obedient l (not-false _ (pass 59 (not (obeys l)) _ z .0))
 
   pub answer-found : FirstAt (answeredAt l by to seq) (l .count) (answeredPlace l by to seq)
-  unfolding answerNumber answeredPlace
+  unfolding answerRefusal answeredPlace
   answer-found = first-found (answeredAt l by to seq) (l .count) (not-false _ (pass 63 (not (anyBelow (answeredAt l by to seq) (l .count))) 0 (pass 59 (not (obeys l)) _ z .1) .0))
 
   abbrev k : ℕ
@@ -61,32 +61,32 @@ module _ (l : Ledger) (by to : Address) (seq : Seq) (reply : Reply) (whole : Who
 
 -- ---- tick
 
-module _ (l : Ledger) (whole : Whole l) (z : tickNumber l ≡ 0) where
+module _ (l : Ledger) (whole : Whole l) (z : tickRefusal l ≡ 0) where
   pub tick-rules : Obedient l
-  unfolding tickNumber
+  unfolding tickRefusal
   tick-rules = obedient l (not-false _ (pass 59 (not (obeys l)) _ z .0))
 
   pub tick-after : tickOf l .ledger ≡ tickedLedger l
   unfolding tickOf
   tick-after = taken _ _ z
 
-  pub tick-at : (i : ℕ) → i < l .count → legAt (tickOf l .ledger) i ≡ ticked (legAt l i)
+  pub tick-at : (i : ℕ) → i < l .count → legAt (tickOf l .ledger) i ≡ tickedLeg (legAt l i)
   unfolding tickedLedger legAt elementAt
-  tick-at i h = rw tick-after (mapped-at noLeg ticked (l .count) i (l .legs) h (omega (arith, tick-rules .few, whole)))
+  tick-at i h = rw tick-after (mapped-at noLeg tickedLeg (l .count) i (l .legs) h (omega (arith, tick-rules .few, whole)))
 
   pub tick-past : (i : ℕ) → l .count ≤ i → legAt (tickOf l .ledger) i ≡ legAt l i
   unfolding tickedLedger legAt elementAt
-  tick-past i h = rw tick-after (mapped-past noLeg ticked (l .count) i (l .legs) h (omega (arith, tick-rules .few, whole)))
+  tick-past i h = rw tick-after (mapped-past noLeg tickedLeg (l .count) i (l .legs) h (omega (arith, tick-rules .few, whole)))
 
 -- ---- clear
 
-module _ (l : Ledger) (place : ℕ) (whole : Whole l) (z : clearNumber l place ≡ 0) where
+module _ (l : Ledger) (place : ℕ) (whole : Whole l) (z : clearRefusal l place ≡ 0) where
   pub clear-rules : Obedient l
-  unfolding clearNumber
+  unfolding clearRefusal
   clear-rules = obedient l (not-false _ (pass 59 (not (obeys l)) _ z .0))
 
   pub clear-within : place < l .count
-  unfolding clearNumber settledAt
+  unfolding clearRefusal settledAt
   clear-within = ltb-true _ _ (and-left (ltb place (l .count)) _ (not-false _ (pass 64 (not (settledAt l place)) 0 (pass 59 (not (obeys l)) _ z .1) .0)))
 
   pub clear-after : clearOf l place .ledger ≡ closeUp l place
@@ -140,14 +140,14 @@ module _ (l : Ledger) (place : ℕ) (whole : Whole l) (z : clearNumber l place �
 
 -- ---- accept
 
-module _ (l : Ledger) (f : List ℕ) (arrival : Port) (t : Table) (ticks : ℕ) (whole : Whole l) (z : acceptNumber l f arrival t ticks ≡ 0) where
-  pub frame-taken : refusalOf f ≡ 0
-  unfolding acceptNumber
-  frame-taken = or-pass (refusalOf f) _ z .0
+module _ (l : Ledger) (f : List ℕ) (arrival : Port) (t : Table) (ticks : ℕ) (whole : Whole l) (z : acceptRefusal l f arrival t ticks ≡ 0) where
+  pub frame-taken : frameRefusal f ≡ 0
+  unfolding acceptRefusal
+  frame-taken = or-pass (frameRefusal f) _ z .0
 
-  pub call-taken : callRefusal l (fieldsOf f) (anyBelow (strayAt (destinationAt (drop partAt f))) (fieldsOf f .count)) arrival t ticks ≡ 0
-  unfolding acceptNumber
-  call-taken = or-pass (refusalOf f) _ z .1
+  pub call-taken : callRefusal l (fieldsOf f) (anyBelow (strayAt (destinationAt (drop destinationsOffset f))) (fieldsOf f .count)) arrival t ticks ≡ 0
+  unfolding acceptRefusal
+  call-taken = or-pass (frameRefusal f) _ z .1
 
   pub accept-call : Called l (fieldsOf f) arrival t
   accept-call = called l (fieldsOf f) _ arrival t ticks call-taken
@@ -157,22 +157,22 @@ module _ (l : Ledger) (f : List ℕ) (arrival : Port) (t : Table) (ticks : ℕ) 
 
   pub accept-quiet-after : fieldsOf f .ack ≡ false → acceptOf l f arrival t ticks .ledger ≡ l
   unfolding acceptOf
-  accept-quiet-after a = taken _ _ z ∙ ap (λ (b : Bool). cond b (withLegs l (fieldsOf f) (destinationAt (drop partAt f)) arrival t ticks) l) a
+  accept-quiet-after a = taken _ _ z ∙ ap (λ (b : Bool). cond b (withLegs l (fieldsOf f) (destinationAt (drop destinationsOffset f)) arrival t ticks) l) a
 
   module _ (asked : fieldsOf f .ack ≡ true) where
     pub accept-room : Roomy l (fieldsOf f) ticks
     accept-room = roomy l (fieldsOf f) _ arrival t ticks call-taken asked
 
     abbrev new : ℕ → Leg
-    new = legForAt (fieldsOf f) (destinationAt (drop partAt f)) arrival t ticks
+    new = legForAt (fieldsOf f) (destinationAt (drop destinationsOffset f)) arrival t ticks
 
-    pub accept-after : acceptOf l f arrival t ticks .ledger ≡ withLegs l (fieldsOf f) (destinationAt (drop partAt f)) arrival t ticks
+    pub accept-after : acceptOf l f arrival t ticks .ledger ≡ withLegs l (fieldsOf f) (destinationAt (drop destinationsOffset f)) arrival t ticks
     unfolding acceptOf
-    accept-after = taken _ _ z ∙ ap (λ (b : Bool). cond b (withLegs l (fieldsOf f) (destinationAt (drop partAt f)) arrival t ticks) l) asked
+    accept-after = taken _ _ z ∙ ap (λ (b : Bool). cond b (withLegs l (fieldsOf f) (destinationAt (drop destinationsOffset f)) arrival t ticks) l) asked
 
-    pub accept-number : acceptOf l f arrival t ticks .added ≡ fieldsOf f .count
+    pub accept-refusal : acceptOf l f arrival t ticks .added ≡ fieldsOf f .count
     unfolding acceptOf
-    accept-number = taken _ _ z ∙ ap (λ (b : Bool). cond b (fieldsOf f .count) 0) asked
+    accept-refusal = taken _ _ z ∙ ap (λ (b : Bool). cond b (fieldsOf f .count) 0) asked
 
     pub accept-before : (i : ℕ) → i < l .count → legAt (acceptOf l f arrival t ticks .ledger) i ≡ legAt l i
     unfolding withLegs legAt elementAt

@@ -14,7 +14,7 @@ use Rattle.address.specs.Address.{sameAddress}
 use Rattle.address.proofs.Laws.{same-eq, same-refl}
 use Rattle.ledger.specs.declared.Leg.{Leg}
 use Rattle.ledger.specs.declared.Ledger.{Ledger}
-use Rattle.ledger.specs.Rules.{legAt, isOpen, openLeg, alike, legRight, wrongAt, obeys}
+use Rattle.ledger.specs.Rules.{legAt, isOpen, isOpenLeg, alike, legObeys, brokenAt, obeys}
 use Rattle.ledger.proofs.Laws.{Right, Obedient}
 
 -- what a test that holds nowhere below n says
@@ -31,8 +31,8 @@ pub record OpenFor (source destination : Address) (seq : ℕ) (g : Leg) : Type 0
   pub numbered : g .seq .0 ≡ seq
 
 module _ (source destination : Address) (seq : Seq) (g : Leg) where
-  pub open-for : openLeg source destination seq g ≡ true → OpenFor source destination (seq .0) g
-  unfolding openLeg
+  pub open-for : isOpenLeg source destination seq g ≡ true → OpenFor source destination (seq .0) g
+  unfolding isOpenLeg
   open-for h =
       let p = and-left (isOpen (g .standing) && sameAddress (g .source) source && sameAddress (g .destination) destination) _ h in
       let q = and-left (isOpen (g .standing) && sameAddress (g .source) source) _ p in
@@ -43,8 +43,8 @@ module _ (source destination : Address) (seq : Seq) (g : Leg) where
         numbered = eqb-true _ _ (and-right (isOpen (g .standing) && sameAddress (g .source) source && sameAddress (g .destination) destination) _ h);
       }
 
-  pub is-for : OpenFor source destination (seq .0) g → openLeg source destination seq g ≡ true
-  unfolding openLeg
+  pub is-for : OpenFor source destination (seq .0) g → isOpenLeg source destination seq g ≡ true
+  unfolding isOpenLeg
   is-for o =
       and-both (and-both (and-both (o .is-open) (ap (sameAddress (g .source)) (sym (o .from)) ∙ same-refl (g .source))) (ap (sameAddress (g .destination)) (sym (o .to)) ∙ same-refl (g .destination)))
       (eq-eqb _ _ (o .numbered))
@@ -78,9 +78,9 @@ not-so false y f h = refl
 
 -- ---- a leg that is right
 
-pub leg-right : (g : Leg) → Right g → legRight g ≡ true
-unfolding legRight
-leg-right g r = and-both (and-both (and-both (r .ticks) (r .source)) (r .destination)) (le-leb _ _ (r .seq))
+pub leg-obeys : (g : Leg) → Right g → legObeys g ≡ true
+unfolding legObeys
+leg-obeys g r = and-both (and-both (and-both (r .ticks) (r .source)) (r .destination)) (le-leb _ _ (r .seq))
 
 -- ---- an obedient ledger
 
@@ -97,12 +97,12 @@ apart-at l o i j hi hj ne = go (decLt j i)
     go (no h) = alike-turned (legAt l i) (legAt l j) ∙ apart-earlier l o j i hj (omega (arith, ne))
 
 -- and what makes a ledger obedient
-pub obeys-from : (l : Ledger) → l .count ≤ 128 → ((i : ℕ) → i < l .count → legRight (legAt l i) ≡ true)
+pub obeys-from : (l : Ledger) → l .count ≤ 128 → ((i : ℕ) → i < l .count → legObeys (legAt l i) ≡ true)
     → ((i j : ℕ) → i < l .count → j < i → alike (legAt l i) (legAt l j) ≡ false) → obeys l ≡ true
-unfolding obeys wrongAt repeats repeatAt sameAt
+unfolding obeys brokenAt repeats repeatAt sameAt
 obeys-from l few each apart =
     rw (
       le-leb (l .count) 128 few,
-      any-nowhere (wrongAt l) (l .count) (λ i h. rw (each i h)),
+      any-nowhere (brokenAt l) (l .count) (λ i h. rw (each i h)),
       any-nowhere (repeatAt alike (legAt l)) (l .count) (λ i h. any-nowhere (sameAt alike (legAt l) i) i (λ j k. apart i j h k)),
     )

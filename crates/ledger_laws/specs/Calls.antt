@@ -4,13 +4,13 @@ use mathlib.Core.List.{List}
 use Rattle.address.specs.declared.Port.{Port}
 use Rattle.address.specs.declared.Seq.{Seq}
 use Rattle.address.specs.declared.Address.{Address}
-use Rattle.route.specs.declared.Table.{Table}
+use Rattle.table.specs.declared.Table.{Table}
 use Rattle.ledger.specs.declared.Ledger.{Ledger}
-use Rattle.answer.specs.declared.Reply.{Reply}
-use Rattle.answer.specs.Answer.{answerOf}
-use Rattle.tick.specs.Tick.{tickOf}
-use Rattle.clear.specs.Clear.{clearOf}
-use Rattle.accept.specs.Accept.{acceptOf}
+use Rattle.ledger_answer.specs.declared.Reply.{Reply}
+use Rattle.ledger_answer.specs.Answer.{answerOf}
+use Rattle.ledger_tick.specs.Tick.{tickOf}
+use Rattle.ledger_clear.specs.Clear.{clearOf}
+use Rattle.ledger_accept.specs.Accept.{acceptOf}
 
 -- a frame by an arrival port with a table and ticks; who answers, to whom, the sequence number and the reply; a tick; a place to clear
 pub data Call : Type 0 where
@@ -19,11 +19,11 @@ pub data Call : Type 0 where
   ticking : Call
   clearing : ℕ → Call
 
-unfoldable pub numberOf : Ledger → Call → ℕ
-numberOf l (accepting f arrival t ticks) = acceptOf l f arrival t ticks .number
-numberOf l (answering by to seq reply) = answerOf l by to seq reply .number
-numberOf l ticking = tickOf l .number
-numberOf l (clearing place) = clearOf l place .number
+unfoldable pub refusalOf : Ledger → Call → ℕ
+refusalOf l (accepting f arrival t ticks) = acceptOf l f arrival t ticks .refusal
+refusalOf l (answering by to seq reply) = answerOf l by to seq reply .refusal
+refusalOf l ticking = tickOf l .refusal
+refusalOf l (clearing place) = clearOf l place .refusal
 
 unfoldable pub after : Ledger → Call → Ledger
 after l (accepting f arrival t ticks) = acceptOf l f arrival t ticks .ledger

@@ -20,7 +20,7 @@ ghost use Prim.Native.Nat.{_≤_};
 fn report(read: ChartRead) {
     let c = read.chart;
     let nodes = c.nodes;
-    answered(read.number, read.place as u64, nodes.count as u64);
+    answered(read.refusal, read.place as u64, nodes.count as u64);
 }
 
 // c length, then the chart's bytes: number, place, nodes
@@ -37,7 +37,7 @@ fn put_nodes(out: &mut [u8; 2000], count: u8, label: u8) -> usize
     let mut at: usize = 0;
     let mut i: u8 = 0;
     while i < count {
-        lists::put_all(out, at, &[1, 0, 3 + label % 32, 9, 0, i]);
+        buffer::put_all(out, at, &[1, 0, 3 + label % 32, 9, 0, i]);
         at += 6 + label as usize;
         i += 1;
     }
@@ -71,7 +71,7 @@ fn put_links(out: &mut [u8; 2000], from: usize, count: u8) -> usize
     let mut at = from;
     let mut i: u8 = 0;
     while i < count {
-        lists::put_all(out, at, &link_bytes(i));
+        buffer::put_all(out, at, &link_bytes(i));
         at += 12;
         i += 1;
     }
@@ -82,7 +82,7 @@ fn put_links(out: &mut [u8; 2000], from: usize, count: u8) -> usize
 fn put_built(out: &mut [u8; 2000], nodes: u16, links: u16, label: u16, to: u16) -> u16 {
     let from = put_nodes(out, byte(nodes), byte(label));
     let at = put_links(out, from, byte(links));
-    lists::put_all(out, at, &[3, 0, 6, 9, 0, 0, 9, 0, byte(to)]);
+    buffer::put_all(out, at, &[3, 0, 6, 9, 0, 0, 9, 0, byte(to)]);
     (at % 65000) as u16 + 9
 }
 

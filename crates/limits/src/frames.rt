@@ -6,9 +6,9 @@ use address::Address;
 use address::Node;
 use address::Port;
 use address::Seq;
+use buffer::Written;
 use envelope::Fixed;
 use envelope_read::Read;
-use lists::Written;
 
 pub fn at(brigade: u16, node: u16, port: u16) -> Address {
     Address {
@@ -85,8 +85,8 @@ fn report(frame: &[u8]) {
         Read::Envelope(_) => 0,
         Read::Refused(k) => k,
     };
-    let to = envelope_parts::frame_destinations(frame);
-    let contents = envelope_parts::frame_contents(frame);
+    let to = envelope_read::destinations_of(frame);
+    let contents = envelope_read::contents_of(frame);
     answered(number, to.count as u64, contents.len() as u64);
 }
 

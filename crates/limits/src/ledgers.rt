@@ -8,18 +8,18 @@ use crate::script::taken;
 use crate::script::wide;
 use crate::tables::entry;
 use crate::tables::table;
-use accept::Accepted;
 use address::Address;
 use address::Port;
 use address::Seq;
-use answer::Reply;
 use ledger::Ledger;
 use ledger::Leg;
 use ledger::Outcome;
 use ledger::Standing;
-use route::Table;
-use route::Target;
-use tick::Ticked;
+use ledger_accept::Added;
+use ledger_answer::Reply;
+use ledger_tick::Ticked;
+use table::Table;
+use table::Target;
 
 // A standing by its number: 0 open, 1 acknowledged, 2 refused, 3 undeliverable, else timed out.
 fn standing(n: u16) -> Standing {
@@ -91,10 +91,10 @@ fn leg_at(l: Ledger, place: usize) -> Leg {
 }
 
 // The number, how many legs, and the last leg's ticks.
-fn report(after: Accepted) {
+fn report(after: Added) {
     let l = after.ledger;
     let last = leg_at(l, 127 + l.count as usize);
-    answered(after.number, after.added as u64, last.ticks as u64);
+    answered(after.refusal, after.added as u64, last.ticks as u64);
 }
 
 // Accepts the frame in the first n of 2,000 bytes.
@@ -105,9 +105,9 @@ fn accepted(
     arrival: u16,
     t: Table,
     ticks: u16,
-) -> Accepted {
+) -> Added {
     let n = taken(n, &frame);
-    accept::accept(before, &frame[..n], Port(byte(arrival)), t, ticks)
+    ledger_accept::accept(before, &frame[..n], Port(byte(arrival)), t, ticks)
 }
 
 // The table with one entry, for everything, of an `a` line.
@@ -142,12 +142,12 @@ pub fn accept(v: &[u16; 64]) {
 fn report_tick(after: Ticked) {
     let l = after.ledger;
     let first = leg_at(l, 0);
-    answered(after.number, after.ended as u64, first.ticks as u64);
+    answered(after.refusal, after.ended as u64, first.ticks as u64);
 }
 
 // l ledger node port to-node to-port: number, legs timed out, the first leg's ticks after it
 pub fn tick(v: &[u16; 64]) {
-    report_tick(tick::tick(ledger(v, address(v, 5), address(v, 7))));
+    report_tick(ledger_tick::tick(ledger(v, address(v, 5), address(v, 7))));
 }
 
 // An acknowledgement, or a refusal with its reason set and code.
@@ -169,13 +169,13 @@ fn report_answer(after: Outcome) {
     let l = after.ledger;
     let first = leg_at(l, 0);
     let s = first.standing;
-    answered(after.number, standing_number(s), first.ticks as u64);
+    answered(after.refusal, standing_number(s), first.ticks as u64);
 }
 
 // n ledger by-node by-port to-node to-port sequence nak set code: number, the first leg's standing, its ticks after it. Its legs are from 9/1/5 to 9/20/1.
 pub fn answer(v: &[u16; 64]) {
     let before = ledger(v, at(9, 1, 5), at(9, 20, 1));
-    report_answer(answer::answer(
+    report_answer(ledger_answer::answer(
         before,
         address(v, 5),
         address(v, 7),
@@ -188,10 +188,10 @@ pub fn answer(v: &[u16; 64]) {
 fn report_clear(after: Outcome) {
     let l = after.ledger;
     let first = leg_at(l, 0);
-    answered(after.number, l.count as u64, first.seq.0 as u64);
+    answered(after.refusal, l.count as u64, first.seq.0 as u64);
 }
 
 // k ledger place: number, legs left, the first leg's sequence number
 pub fn clear(v: &[u16; 64]) {
-    report_clear(clear::clear(ledger(v, at(9, 1, 5), at(9, 20, 1)), wide(v[5])));
+    report_clear(ledger_clear::clear(ledger(v, at(9, 1, 5), at(9, 20, 1)), wide(v[5])));
 }

@@ -53,7 +53,7 @@ fn answer_chart(letter: u8, v: &[u16; 64]) {
 fn answer_line(line: &[u8]) {
     io::write_all(1, line);
     let v = numbers(line);
-    let letter = lists::byte_at(line, 0);
+    let letter = buffer::byte_at(line, 0);
     answer_wire(letter, &v);
     answer_ledger(letter, &v);
     answer_chart(letter, &v);

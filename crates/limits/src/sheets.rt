@@ -1,7 +1,7 @@
 // The printed sheet: of bytes that are no chart, and of a chart with a thousand routes.
 use crate::script::answered;
 use crate::script::taken;
-use lists::Written;
+use buffer::Written;
 
 // So many places before the end.
 fn before(n: usize, places: usize) -> usize {
@@ -16,7 +16,7 @@ fn report(answer: Written, text: &[u8; 65536]) {
     let all: &[u8] = text;
     match answer {
         Written::Wrote(n) => {
-            let last = lists::byte_at(all, before(n, 4));
+            let last = buffer::byte_at(all, before(n, 4));
             answered(0, n as u64, last as u64)
         }
         Written::Refused(k) => answered(k, 0, 0),
@@ -49,21 +49,21 @@ fn link_bytes(i: u8) -> [u8; 12] {
 fn put_links(out: &mut [u8; 500]) {
     let mut i: u8 = 0;
     while i < 30 {
-        lists::put_all(out, 24 + 12 * (i as usize), &link_bytes(i));
+        buffer::put_all(out, 24 + 12 * (i as usize), &link_bytes(i));
         i += 1;
     }
 }
 
 // Nodes 9/0 to 9/3 in a row with ten links between each two, asked from the first to the last; where that is asked, one more link between those two.
 fn put_chart(out: &mut [u8; 500], more: u16) {
-    lists::put_all(out, 0, &[1, 0, 3, 9, 0, 0, 1, 0, 3, 9, 0, 1]);
-    lists::put_all(out, 12, &[1, 0, 3, 9, 0, 2, 1, 0, 3, 9, 0, 3]);
+    buffer::put_all(out, 0, &[1, 0, 3, 9, 0, 0, 1, 0, 3, 9, 0, 1]);
+    buffer::put_all(out, 12, &[1, 0, 3, 9, 0, 2, 1, 0, 3, 9, 0, 3]);
     put_links(out);
     if more == 0 {
-        lists::put_all(out, 384, &[3, 0, 6, 9, 0, 0, 9, 0, 3]);
+        buffer::put_all(out, 384, &[3, 0, 6, 9, 0, 0, 9, 0, 3]);
     } else {
-        lists::put_all(out, 384, &[2, 0, 9, 9, 0, 0, 30, 9, 0, 3, 30, 1]);
-        lists::put_all(out, 396, &[3, 0, 6, 9, 0, 0, 9, 0, 3]);
+        buffer::put_all(out, 384, &[2, 0, 9, 9, 0, 0, 30, 9, 0, 3, 30, 1]);
+        buffer::put_all(out, 396, &[3, 0, 6, 9, 0, 0, 9, 0, 3]);
     }
 }
 

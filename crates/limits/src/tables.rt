@@ -4,10 +4,10 @@ use crate::script::answered;
 use crate::script::byte;
 use address::Node;
 use address::Port;
-use route::Choice;
-use route::Entry;
-use route::Table;
-use route::Target;
+use table::Choice;
+use table::Entry;
+use table::Table;
+use table::Target;
 
 // What an entry of brigade 9 is for: 0 a node, 1 the brigade, else everything.
 fn target(kind: u16, node: u16) -> Target {
@@ -62,5 +62,5 @@ fn asked_table(v: &[u16; 64]) -> Table {
 pub fn choose(v: &[u16; 64]) {
     let to = at(v[7], v[8], v[9]);
     let arrival = Port(byte(v[10]));
-    report(route::choose(asked_table(v), to, arrival));
+    report(table::choose(asked_table(v), to, arrival));
 }

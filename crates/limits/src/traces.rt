@@ -5,7 +5,7 @@ use crate::script::byte;
 use crate::script::taken;
 use crate::script::wide;
 use chart::Chart;
-use search::Traced;
+use route_search::Traced;
 
 fn number(b: u8) -> u64 {
     b as u64
@@ -29,7 +29,7 @@ fn asked_chart(v: &[u16; 64]) -> Chart {
 fn first_in(c: Chart, room: u16) {
     let mut buf = [99u8; 64];
     let n = taken(room, &buf);
-    let answer = trace::first(c, &mut buf[..n]);
+    let answer = route_trace::first(c, &mut buf[..n]);
     report(answer, &buf);
 }
 
@@ -53,7 +53,7 @@ fn counting(begin: u16) -> [u8; 64] {
 fn next_in(c: Chart, given: usize, begin: u16, room: u16) {
     let mut buf = counting(begin);
     let n = taken(room, &buf);
-    let answer = trace::next(c, &mut buf[..n], given);
+    let answer = route_trace::next(c, &mut buf[..n], given);
     report(answer, &buf);
 }
 

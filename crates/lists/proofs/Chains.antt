@@ -7,7 +7,7 @@ use native.Mathlib.Numerals.{add-one}
 use native.Mathlib.Nat.{add-zero, add-suc}
 use native.Mathlib.Decide.{decLt}
 use Rattle.lists.specs.Refusals.{refuse, orElse}
-use Rattle.lists.specs.Chains.{firstNumber}
+use Rattle.lists.specs.Chains.{firstRefusalBelow}
 use Rattle.lists.proofs.Refusals.{or-pass, or-refused}
 
 pub stops : (n : ℕ) {t : Bool} (later : ℕ) → t ≡ true → n ≡ refuse n t later
@@ -19,35 +19,35 @@ passes n e h = rw e h
 -- ---- the first number other than 0
 
 module _ (d : ℕ → ℕ) where
-  pub number-none : firstNumber d 0 ≡ 0
-  unfolding firstNumber
-  number-none = refl
+  pub refusal-none : firstRefusalBelow d 0 ≡ 0
+  unfolding firstRefusalBelow
+  refusal-none = refl
 
-  number-next : (i : ℕ) → firstNumber d i ≡ 0 → firstNumber d (suc i) ≡ d i
-  unfolding firstNumber
-  number-next i h = rw h
+  refusal-next : (i : ℕ) → firstRefusalBelow d i ≡ 0 → firstRefusalBelow d (suc i) ≡ d i
+  unfolding firstRefusalBelow
+  refusal-next i h = rw h
 
-  pub number-more : (i : ℕ) → firstNumber d i ≡ 0 → d i ≡ 0 → firstNumber d (i + 1) ≡ 0
-  number-more i h e = rw add-one (number-next i h ∙ e)
+  pub refusal-more : (i : ℕ) → firstRefusalBelow d i ≡ 0 → d i ≡ 0 → firstRefusalBelow d (i + 1) ≡ 0
+  refusal-more i h e = rw add-one (refusal-next i h ∙ e)
 
   -- a number other than 0 decides for all places after it
-  pub number-stays : (n k : ℕ) → (firstNumber d n ≡ 0 → ⊥) → firstNumber d (n + k) ≡ firstNumber d n
-  unfolding firstNumber
-  number-stays n zero h = rw add-zero
-  number-stays n (suc k) h = rw (add-suc, number-stays n k h) (or-refused (firstNumber d n) (d (n + k)) h)
+  pub refusal-stays : (n k : ℕ) → (firstRefusalBelow d n ≡ 0 → ⊥) → firstRefusalBelow d (n + k) ≡ firstRefusalBelow d n
+  unfolding firstRefusalBelow
+  refusal-stays n zero h = rw add-zero
+  refusal-stays n (suc k) h = rw (add-suc, refusal-stays n k h) (or-refused (firstRefusalBelow d n) (d (n + k)) h)
 
-  pub number-found : (n i : ℕ) → i < n → firstNumber d i ≡ 0 → (d i ≡ 0 → ⊥) → firstNumber d n ≡ d i
-  number-found n i l h e =
+  pub refusal-found : (n i : ℕ) → i < n → firstRefusalBelow d i ≡ 0 → (d i ≡ 0 → ⊥) → firstRefusalBelow d n ≡ d i
+  refusal-found n i l h e =
       let k : n ≡ suc i + (n - suc i) = omega arith in
-      ap (firstNumber d) k ∙ number-stays (suc i) (n - suc i) (λ z. e (sym (number-next i h) ∙ z)) ∙ number-next i h
+      ap (firstRefusalBelow d) k ∙ refusal-stays (suc i) (n - suc i) (λ z. e (sym (refusal-next i h) ∙ z)) ∙ refusal-next i h
 
   -- where it is 0, so is every number below n, and it is 0 at each place on the way
-  pub number-zero : (n i : ℕ) → firstNumber d n ≡ 0 → i < n → d i ≡ 0
-  unfolding firstNumber
-  number-zero zero i h l = absurd (omega arith)
-  number-zero (suc n) i h l = go (decLt i n) (or-pass (firstNumber d n) (d n) h) (number-zero n i)
+  pub refusal-zero : (n i : ℕ) → firstRefusalBelow d n ≡ 0 → i < n → d i ≡ 0
+  unfolding firstRefusalBelow
+  refusal-zero zero i h l = absurd (omega arith)
+  refusal-zero (suc n) i h l = go (decLt i n) (or-pass (firstRefusalBelow d n) (d n) h) (refusal-zero n i)
     where
-      go : Dec (i < n) → (firstNumber d n ≡ 0) × (d n ≡ 0) → (firstNumber d n ≡ 0 → i < n → d i ≡ 0) → d i ≡ 0
+      go : Dec (i < n) → (firstRefusalBelow d n ≡ 0) × (d n ≡ 0) → (firstRefusalBelow d n ≡ 0 → i < n → d i ≡ 0) → d i ≡ 0
       go (yes m) p ih = ih (p .0) m
       go (no m) p ih = let e : i ≡ n = omega arith in ap d e ∙ p .1
 
@@ -55,27 +55,27 @@ module _ (d : ℕ → ℕ) where
   pub record FirstBad (n : ℕ) : Type 0 where
     pub place : ℕ
     pub below : place < n
-    pub before : firstNumber d place ≡ 0
+    pub before : firstRefusalBelow d place ≡ 0
     pub bad : d place ≡ 0 → ⊥
-    pub same : firstNumber d n ≡ d place
+    pub same : firstRefusalBelow d n ≡ d place
 
-  pub first-bad : (n : ℕ) → (firstNumber d n ≡ 0 → ⊥) → FirstBad n
-  unfolding firstNumber
+  pub first-bad : (n : ℕ) → (firstRefusalBelow d n ≡ 0 → ⊥) → FirstBad n
+  unfolding firstRefusalBelow
   first-bad zero h = absurd (h refl)
-  first-bad (suc n) h = go (firstNumber d n) refl (first-bad n)
+  first-bad (suc n) h = go (firstRefusalBelow d n) refl (first-bad n)
     where
-      go : (k : ℕ) → firstNumber d n ≡ k → ((firstNumber d n ≡ 0 → ⊥) → FirstBad n) → FirstBad (suc n)
+      go : (k : ℕ) → firstRefusalBelow d n ≡ k → ((firstRefusalBelow d n ≡ 0 → ⊥) → FirstBad n) → FirstBad (suc n)
       go zero e ih =
-          let q : firstNumber d (suc n) ≡ d n = number-next n e in
+          let q : firstRefusalBelow d (suc n) ≡ d n = refusal-next n e in
           record { place = n; below = omega arith; before = e; bad = λ z. h (q ∙ z); same = q }
       go (suc k) e ih =
           let f = ih (λ z. absurd (omega arith)) in
-          record { place = f .place; below = omega (arith, f .below); before = f .before; bad = f .bad; same = number-found (suc n) (f .place) (omega (arith, f .below)) (f .before) (f .bad) }
+          record { place = f .place; below = omega (arith, f .below); before = f .before; bad = f .bad; same = refusal-found (suc n) (f .place) (omega (arith, f .below)) (f .before) (f .bad) }
 
-pub number-agree : (d d' : ℕ → ℕ) (n : ℕ) → ((i : ℕ) → i < n → d i ≡ d' i) → firstNumber d n ≡ firstNumber d' n
-unfolding firstNumber
-number-agree d d' zero h = refl
-number-agree d d' (suc n) h = rw (number-agree d d' n (λ i l. h i (omega arith)), h n (omega arith))
+pub refusal-agree : (d d' : ℕ → ℕ) (n : ℕ) → ((i : ℕ) → i < n → d i ≡ d' i) → firstRefusalBelow d n ≡ firstRefusalBelow d' n
+unfolding firstRefusalBelow
+refusal-agree d d' zero h = refl
+refusal-agree d d' (suc n) h = rw (refusal-agree d d' n (λ i l. h i (omega arith)), h n (omega arith))
 
 -- the first of two refusals at a `return`
 pub or-stops : {k a : ℕ} (b : ℕ) → k ≡ a → (k ≡ 0 → ⊥) → k ≡ orElse a b

@@ -4,5 +4,4 @@ pub mod Stores
 pub mod Lists
 pub mod Refusals
 pub mod Chains
-pub mod Writing
 pub mod Runs

@@ -2,14 +2,16 @@
 use Prim.Native.Nat.{ℕ, zero, suc, _+_, _*_, _-_, _<_, _≤_}
 use mathlib.Core.Path.{_≡_, refl, sym, ap, _∙_}
 use mathlib.Core.Bool.{Bool, true, false, _||_, cond, true≢false}
+use mathlib.Core.Logic.{_⊎_, inl, inr}
 use mathlib.Core.List.{List, [], _∷_, _++_, append-assoc, append-nil}
 use native.Mathlib.Omega.{arith}
 use native.Mathlib.Numerals.{add-one}
-use native.Mathlib.Nat.{add-zero, add-suc, mul-zero, mul-suc, sub-zero}
+use native.Mathlib.Nat.{zero-add, add-zero, add-suc, mul-zero, mul-suc, sub-zero}
 use native.Mathlib.Decide.{decLt}
+use borrow.Author.Tests.{lt-ltb, le-ltb}
 use lib.ListN.{length, getD, set, replicate, length-append, length-replicate, replicate-append-replicate, List·getD-append}
 use lib.Seq.{getD-at, getD-append-add, set-at}
-use Rattle.lists.specs.Places.{anyBelow, firstBelow, sameAt, repeatAt, repeats, elementAt, firsts, row, joined}
+use Rattle.lists.specs.Places.{anyBelow, firstFrom, firstBelow, sameAt, repeatAt, repeats, elementAt, firsts, row, joined, upTo}
 use Rattle.lists.proofs.Bools.{or-right, or-none, or-neither-of}
 
 -- ---- some place below n
@@ -73,38 +75,87 @@ pub record FirstAt (p : ℕ → Bool) (n k : ℕ) : Type 0 where
   pub passes : p k ≡ true
   pub none-before : anyBelow p k ≡ false
 
+-- no place of a run passes
+None : (ℕ → Bool) → ℕ → ℕ → Type 0
+None p i k = (j : ℕ) → i ≤ j → j < k → p j ≡ false
+
+any-below-none : (p : ℕ → Bool) (n : ℕ) → None p 0 n → anyBelow p n ≡ false
+unfolding anyBelow None
+any-below-none p zero h = refl
+any-below-none p (suc n) h = rw (any-below-none p n (λ j l m. h j l (omega arith)), h n (omega arith) (omega arith))
+
+none-below : (p : ℕ → Bool) (n : ℕ) → anyBelow p n ≡ false → None p 0 n
+unfolding None
+none-below p n h j l m = any-false p n j h m
+
+from-none : (p : ℕ → Bool) (i n : ℕ) → None p i (i + n) → firstFrom p i n ≡ i + n
+unfolding firstFrom None
+from-none p i zero h = sym (add-zero i)
+from-none p i (suc n) h =
+    let r : firstFrom p (suc i) n ≡ suc i + n = from-none p (suc i) n (λ j l m. h j (omega arith) (omega arith)) in
+    rw (h i (omega arith) (omega arith)) (r ∙ omega arith)
+
+from-found : (p : ℕ → Bool) (i n k : ℕ) → i ≤ k → k < i + n → p k ≡ true → None p i k → firstFrom p i n ≡ k
+unfolding firstFrom None
+from-found p i zero k l m e h = absurd (omega arith)
+from-found p i (suc n) k l m e h = go (p i) refl (decLt i k) (λ q. from-found p (suc i) n k q (omega arith) e (λ j x y. h j (omega arith) y))
+  where
+    go : (b : Bool) → p i ≡ b → Dec (i < k) → (i < k → firstFrom p (suc i) n ≡ k) → cond (p i) i (firstFrom p (suc i) n) ≡ k
+    go true a (yes q) r = absurd (true≢false (sym a ∙ h i (omega arith) q))
+    go true a (no q) r = rw a (omega arith)
+    go false a (yes q) r = rw a (r q)
+    go false a (no q) r =
+        let s : i ≡ k = omega arith in
+        absurd (true≢false (sym e ∙ ap p (sym s) ∙ a))
+
+-- either no place of a run passes, or there is a first that does
+record Passing (p : ℕ → Bool) (i n : ℕ) : Type 0 where
+  place : ℕ
+  from : i ≤ place
+  below : place < i + n
+  passes : p place ≡ true
+  before : None p i place
+
+wider : (p : ℕ → Bool) (i k : ℕ) → p i ≡ false → None p (suc i) k → None p i k
+unfolding None
+wider p i k a h j l m = at (decLt i j)
+  where
+    at : Dec (i < j) → p j ≡ false
+    at (yes q) = h j q m
+    at (no q) =
+        let s : i ≡ j = omega arith in
+        ap p (sym s) ∙ a
+
+from-cases : (p : ℕ → Bool) (i n : ℕ) → None p i (i + n) ⊎ Passing p i n
+unfolding None
+from-cases p i zero = inl (λ j l m. absurd (omega arith))
+from-cases p i (suc n) = go (p i) refl (from-cases p (suc i) n)
+  where
+    go : (b : Bool) → p i ≡ b → None p (suc i) (suc i + n) ⊎ Passing p (suc i) n → None p i (i + suc n) ⊎ Passing p i (suc n)
+    go true a r = inr (record { place = i; from = omega arith; below = omega arith; passes = a; before = λ j l m. absurd (omega arith) })
+    go false a (inl h) = inl (λ j l m. wider p i (suc i + n) a h j l (omega arith))
+    go false a (inr f) =
+        inr (record { place = f .place; from = omega (arith, f .from); below = omega (arith, f .below); passes = f .passes; before = wider p i (f .place) a (f .before) })
+
 -- a search that stops at such a place has found `firstBelow`
 pub first-stop : (p : ℕ → Bool) (n k : ℕ) → FirstAt p n k → firstBelow p n ≡ k
 unfolding firstBelow
-first-stop p zero k f = absurd (omega arith)
-first-stop p (suc n) k f = go (decLt k n) (first-stop p n k)
-  where
-    go : Dec (k < n) → (FirstAt p n k → firstBelow p n ≡ k) → cond (anyBelow p n) (firstBelow p n) (cond (p n) n (suc n)) ≡ k
-    go (yes l) ih = rw (any-found p n k l (f .passes)) (ih (record { below = l; passes = f .passes; none-before = f .none-before }))
-    go (no l) ih =
-        let q : n ≡ k = omega arith in
-        rw (q, f .none-before, f .passes)
+first-stop p n k f = from-found p 0 n k (omega arith) (omega (arith, f .below)) (f .passes) (none-below p k (f .none-before))
 
 -- where some place passes, `firstBelow` is such a place
 pub first-found : (p : ℕ → Bool) (n : ℕ) → anyBelow p n ≡ true → FirstAt p n (firstBelow p n)
-unfolding anyBelow firstBelow
-first-found p zero h = absurd (true≢false (sym h))
-first-found p (suc n) h = go (anyBelow p n) refl h (first-found p n)
+first-found p n h = go (from-cases p 0 n)
   where
-    go : (b : Bool) → anyBelow p n ≡ b → (b || p n) ≡ true → (anyBelow p n ≡ true → FirstAt p n (firstBelow p n))
-        → FirstAt p (suc n) (cond (anyBelow p n) (firstBelow p n) (cond (p n) n (suc n)))
-    go true e t ih =
-        let f = ih e in
-        rw e (record { below = omega arith; passes = f .passes; none-before = f .none-before })
-    go false e t ih = rw (e, t) (record { below = omega arith; passes = t; none-before = e })
+    go : None p 0 (0 + n) ⊎ Passing p 0 n → FirstAt p n (firstBelow p n)
+    go (inl q) = absurd (true≢false (sym h ∙ any-below-none p n (rw zero-add at q)))
+    go (inr q) =
+        let f : FirstAt p n (q .place) = record { below = omega (arith, q .below); passes = q .passes; none-before = any-below-none p (q .place) (q .before) } in
+        rw (first-stop p n (q .place) f) f
 
 -- where none passes it is n, and whether it is below n says whether some place passes
 pub first-none : (p : ℕ → Bool) (n : ℕ) → anyBelow p n ≡ false → firstBelow p n ≡ n
-unfolding anyBelow firstBelow
-first-none p zero h = refl
-first-none p (suc n) h =
-    let q = or-neither-of (anyBelow p n) (p n) h in
-    rw (q .0, q .1)
+unfolding firstBelow
+first-none p n h = from-none p 0 n (rw zero-add (none-below p n h)) ∙ zero-add n
 
 pub first-past : (p : ℕ → Bool) (n : ℕ) → n ≤ firstBelow p n → anyBelow p n ≡ false
 first-past p n h = go (anyBelow p n) refl
@@ -121,11 +172,14 @@ first-below p n h = go (anyBelow p n) refl
     go false e = let f = first-none p n e in absurd (omega arith)
 
 -- two tests that agree below n
+from-agree : (p p' : ℕ → Bool) (i n : ℕ) → ((j : ℕ) → i ≤ j → j < i + n → p j ≡ p' j) → firstFrom p i n ≡ firstFrom p' i n
+unfolding firstFrom
+from-agree p p' i zero h = refl
+from-agree p p' i (suc n) h = rw (h i (omega arith) (omega arith), from-agree p p' (suc i) n (λ j l m. h j (omega arith) (omega arith)))
+
 pub first-agree : (p p' : ℕ → Bool) (n : ℕ) → ((i : ℕ) → i < n → p i ≡ p' i) → firstBelow p n ≡ firstBelow p' n
 unfolding firstBelow
-first-agree p p' zero h = refl
-first-agree p p' (suc n) h =
-    rw (any-agree p p' n (λ i l. h i (omega arith)), first-agree p p' n (λ i l. h i (omega arith)), h n (omega arith))
+first-agree p p' n h = from-agree p p' 0 n (λ j l m. h j (omega arith))
 
 -- two values are told apart alike, whatever they are and whatever tells them apart
 pub repeats-agree : {A B : Type 0} (same : A → A → Bool) (same' : B → B → Bool) (d : ℕ → A) (d' : ℕ → B) (n : ℕ)
@@ -230,6 +284,19 @@ module _ {A : Type 0} where
   joined-padded f w z d d' n a p q zero = rw (add-zero, joined-agree f d' d n a, mul-zero, append-nil)
   joined-padded f w z d d' n a p q (suc k) =
       rw (add-suc, p k, q, joined-padded f w z d d' n a p q k, append-assoc, replicate-append-replicate, mul-suc)
+
+  -- the first n of m things of w bytes each, and zeros at the places past them
+  pub joined-used : (f : A → List ℕ) (w : ℕ) (z : A) → f z ≡ replicate w 0 → (d : ℕ → A) (n m : ℕ) → n ≤ m
+      → joined f (upTo n z d) m ≡ joined f d n ++ replicate (w * (m - n)) 0
+  unfolding upTo
+  joined-used f w z q d n m h =
+      let e : n + (m - n) ≡ m = omega arith in
+      ap (joined f (upTo n z d)) (sym e) ∙ joined-padded f w z d (upTo n z d) n (λ i l. rw (lt-ltb i n l)) (λ k. rw (le-ltb (n + k) n (omega arith))) q (m - n)
+
+  -- all m of them, where there are more
+  pub joined-full : (f : A → List ℕ) (z : A) (d : ℕ → A) (n m : ℕ) → m ≤ n → joined f (upTo n z d) m ≡ joined f d m
+  unfolding upTo
+  joined-full f z d n m h = joined-agree f (upTo n z d) d m (λ i l. rw (lt-ltb i n (omega arith)))
 
   -- what stands where in a row of things of w bytes each
   pub joined-at : (f : A → List ℕ) (w : ℕ) → ((x : A) → length (f x) ≡ w) → (d : ℕ → A) (n i k : ℕ) → i < n → k < w → (rest : List ℕ)

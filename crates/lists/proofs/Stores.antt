@@ -1,11 +1,11 @@
 -- Runs of stores, `lib.Seq.sets`: one after another, past the end, and what then stands where.
-use Prim.Native.Nat.{ℕ, zero, suc, _+_, _*_, _<_, _≤_}
+use Prim.Native.Nat.{ℕ, zero, suc, _+_, _*_, _-_, _<_, _≤_}
 use mathlib.Core.Path.{_≡_, refl, sym, ap, _∙_}
 use mathlib.Core.List.{List, [], _∷_, _++_}
 use native.Mathlib.Omega.{arith}
 use native.Mathlib.Numerals.{add-one}
 use native.Mathlib.Nat.{zero-add, add-zero}
-use lib.ListN.{length, getD, take, drop, set, length-set, take-append-drop}
+use lib.ListN.{length, getD, take, drop, set, replicate, length-set, length-replicate, replicate-append-replicate, take-append-drop}
 use lib.Seq.{sets, sets-eq, length-sets, set-out, take-suc, take-at, length-take-le, getD-set-same, getD-set-other}
 use Rattle.lists.specs.Places.{firsts, joined}
 use Rattle.lists.proofs.Places.{length-firsts, length-joined, joined-next}
@@ -51,6 +51,20 @@ joined-stored f k w l at d i =
 pub firsts-stored : {A : Type 0} (l : List A) (at : ℕ) (d : ℕ → A) (i : ℕ) → set (sets l at (firsts d i)) (at + i) (d i) ≡ sets l at (firsts d (i + 1))
 unfolding firsts
 firsts-stored l at d i = rw add-one (sets-append (firsts d i) l at (d i ∷ []) (at + i) (rw (length-firsts d i) refl))
+
+-- n times one value: one store more, and those that fit are all
+module _ {A : Type 0} (x : A) where
+  pub same-more : (l : List A) (at i : ℕ) → set (sets l at (replicate i x)) (at + i) x ≡ sets l at (replicate (i + 1) x)
+  same-more l at i =
+      sets-append (replicate i x) l at (x ∷ []) (at + i) (rw length-replicate refl) ∙ ap (sets l at) (replicate-append-replicate i 1 x)
+
+  pub same-cut : (l : List A) (at n m : ℕ) → n ≤ m → length l ≤ at + n → sets l at (replicate n x) ≡ sets l at (replicate m x)
+  same-cut l at n m h k =
+      let e : n + (m - n) ≡ m = omega arith in
+      sym (ap (λ (j : ℕ). sets l at (replicate j x)) (sym e)
+      ∙ ap (sets l at) (sym (replicate-append-replicate n (m - n) x))
+      ∙ sym (sets-append (replicate n x) l at (replicate (m - n) x) (at + n) (rw length-replicate refl))
+      ∙ sets-past (replicate (m - n) x) (sets l at (replicate n x)) (at + n) (rw length-sets k))
 
 -- what stands where after a run of stores
 module _ {A : Type 0} (z : A) where

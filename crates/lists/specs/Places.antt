@@ -2,6 +2,7 @@
 use mathlib.Core.Bool.{Bool, false, _||_, cond}
 use mathlib.Core.List.{List, [], _∷_, _++_}
 use Prim.Native.Nat.{ℕ, zero, suc, _-_}
+use lib.Dec.{ltb}
 use lib.ListN.{getD, replicate}
 
 -- the test holds at some place below n
@@ -9,10 +10,14 @@ unfoldable pub anyBelow : (ℕ → Bool) → ℕ → Bool
 anyBelow p zero = false
 anyBelow p (suc n) = anyBelow p n || p n
 
+-- the first of the n places from i on where the test holds, or the place past them
+unfoldable pub firstFrom : (ℕ → Bool) → ℕ → ℕ → ℕ
+firstFrom p i zero = i
+firstFrom p i (suc n) = cond (p i) i (firstFrom p (suc i) n)
+
 -- the first place below n where the test holds, or n
 unfoldable pub firstBelow : (ℕ → Bool) → ℕ → ℕ
-firstBelow p zero = zero
-firstBelow p (suc n) = cond (anyBelow p n) (firstBelow p n) (cond (p n) n (suc n))
+firstBelow p n = firstFrom p 0 n
 
 module _ {A : Type 0} (same : A → A → Bool) (d : ℕ → A) where
   -- the places i and j have the same value
@@ -45,3 +50,7 @@ module _ {A : Type 0} where
   unfoldable pub joined : (A → List ℕ) → (ℕ → A) → ℕ → List ℕ
   joined f d zero = []
   joined f d (suc n) = joined f d n ++ f (d n)
+
+  -- the values at the places below n, and z at the others
+  unfoldable pub upTo : ℕ → A → (ℕ → A) → ℕ → A
+  upTo n z d i = cond (ltb i n) (d i) z

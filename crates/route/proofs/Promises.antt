@@ -1,212 +1,108 @@
--- The theorems of the choice: next-route, answers, choice-numbers, past-count.
-use Prim.Native.Nat.{ℕ, _<_, _≤_}
-use mathlib.Core.Path.{_≡_, refl, sym, ap, _∙_}
-use mathlib.Core.Bool.{Bool, true, false, not, _&&_, cond}
-use native.Mathlib.Omega.{arith}
-use lib.Dec.{eqb, leb}
-use borrow.Author.Tests.{eq-eqb, ne-eqb, eqb-false, not-true}
-use Rattle.lists.specs.Places.{anyBelow, firstBelow}
-use Rattle.lists.specs.Refusals.{among}
-use Rattle.lists.proofs.Bools.{and-left, and-right, and-both, not-no, no-not, both-ways}
-use Rattle.lists.proofs.Places.{any-found, any-false, any-agree, first-agree, first-found, FirstAt}
-use Rattle.address.specs.declared.Port.{Port}
-use Rattle.address.specs.declared.Address.{Address}
-use Rattle.address.specs.Address.{stationOf, stationInRange, sameStation}
-use Rattle.route.specs.declared.Table.{Table}
-use Rattle.route.specs.declared.Entry.{Entry}
-use Rattle.route.specs.declared.Choice.{Choice}
-use Rattle.route.specs.declared.Choice.the-variants.{Local, Out, Refused}
-use Rattle.route.specs.Route.{mostEntries, entryAt, isOwn, qualifies, qualifiesAt, hasRoute, outPort, outOf, entryInRange, strayEntry, tableInRange, callInRange, chooseOf, choiceNumber, choiceLocal}
-use Rattle.route.specs.Promises.{Taken, Qualifies, First, NextRoute, Answers, choiceNumbers, Alike, PastCount}
-use Rattle.route.proofs.Laws.{out-found, out-none, chosen-50, chosen-51, chosen-here, chosen-out, choiceBy}
+-- The theorems of specs/Promises.antt, from the laws of the list of all routes.
+use mathlib.Core.Path.{_≡_, refl, sym, _∙_, ap}
+use mathlib.Core.Logic.{_⊎_, inl, inr}
+use mathlib.Core.Bool.{Bool, true, false}
+use mathlib.Core.Option.{none, Option·none-ne-some}
+use mathlib.Core.List.{List, [], _∷_, _++_, List·Memᴰ, List·Memᴰ·cases-cons, List·Memᴰ·not-nil, head-eq-of-cons-eq, tail-eq-of-cons-eq}
+use Prim.Native.Nat.{ℕ, _<_}
+use Rattle.lists.proofs.Bools.{both-ways}
+use Rattle.route.proofs.Tests.{either, same-yes, same-of}
+use Rattle.route.proofs.Laws.{all-are, all-here, all-sound, route-short}
+use Rattle.route.proofs.Order.{inc-unique, all-increasing, all-once}
+use Rattle.route.proofs.Next.{next-found, next-past, next-absent, gives-all, isRoute-yes, isRoute-of}
+use Rattle.route.proofs.Least.{first-least, next-least}
+use Rattle.route.specs.Route.{Net, Sound, only, IsRoute, arrived, passed, RouteFrom, NoneTwice}
+use Rattle.route.specs.All.{allFrom, allRoutes, Finding, firstOf, sameLinks, nextOf}
+use Rattle.route.specs.Contracts.{isRoute}
+use Rattle.route.specs.Promises.{Gives, ended, another, EveryRoute, ListGivesAll, NoOther, FirstLeast, NextLeast, ShortRoutes, OffLinks, TwinLinks}
 
--- ---- the next route
+pub list-gives-all : ListGivesAll
+unfolding allRoutes
+list-gives-all G sound a =
+    record {
+      all = allRoutes G a;
+      given = gives-all G a (only a);
+      each = λ r. all-are G sound a (only a) r;
+      once = all-once G a (only a);
+      ordered = all-increasing G a (only a);
+      itself = λ e. all-here G a (only a) e;
+      refused = λ r n. next-absent (allFrom G a (only a)) r (λ m. n (all-sound G a (only a) r m));
+    }
 
-module _ (t : Table) (d : Address) (arrival : Port) where
-  -- an entry that passes the test, over places; and back
-  placed : (k : ℕ) → k < t .count → qualifiesAt t d arrival k ≡ true → Qualifies t d arrival k
-  unfolding qualifiesAt qualifies
-  placed k l h =
-      let e = entryAt t k in
-      let p = and-left (e .on && not (eqb (e .port .0) (arrival .0))) _ h in
-      record {
-        counts = l;
-        on = and-left (e .on) _ p;
-        matches = and-right (e .on && not (eqb (e .port .0) (arrival .0))) _ h;
-        other-port = eqb-false _ _ (not-true _ (and-right (e .on) _ p));
-      }
+-- ---- nothing else gives them
 
-  tested : (k : ℕ) → Qualifies t d arrival k → qualifiesAt t d arrival k ≡ true
-  unfolding qualifiesAt qualifies
-  tested k q = and-both (and-both (q .on) (not-no (ne-eqb _ _ (q .other-port)))) (q .matches)
+gives-first : {next : List ℕ → Finding} {a : Finding} {l : List (List ℕ)} → Gives next a l → a ≡ firstOf l
+unfolding firstOf
+gives-first ended = refl
+gives-first (another g) = refl
 
-  -- the first place that passes the test is the first entry that qualifies; and back
-  first-placed : (k : ℕ) → FirstAt (qualifiesAt t d arrival) (t .count) k → First t d arrival k
-  first-placed k f = record {
-    qualifies = placed k (f .below) (f .passes);
-    none-before = λ j l q. both-ways (tested j q) (any-false (qualifiesAt t d arrival) k j (f .none-before) l);
-  }
+gives-next : {next : List ℕ → Finding} {a : Finding} {l : List (List ℕ)} → Gives next a l → NoneTwice l → (r : List ℕ) → List·Memᴰ r l → next r ≡ nextOf l r
+gives-next ended n r m = absurd (List·Memᴰ·not-nil m)
+gives-next {next = next} (another {r = x} {l = b} g) n r m = go (λ k. gives-next g (n .1) r k) (either (sameLinks x r)) (List·Memᴰ·cases-cons m)
+  where
+    go : (List·Memᴰ r b → next r ≡ nextOf b r) → (sameLinks x r ≡ true) ⊎ (sameLinks x r ≡ false) → (r ≡ x) ⊎ List·Memᴰ r b → next r ≡ nextOf (x ∷ b) r
+    go below (inl e) w = let p : x ≡ r = same-yes x r e in ap next (sym p) ∙ gives-first g ∙ sym (next-found x b r p)
+    go below (inr e) (inl p) = absurd (both-ways (same-of x r (sym p)) e)
+    go below (inr e) (inr k) = below k ∙ sym (next-past x b r e)
 
-  none-placed : (n : ℕ) → ((j : ℕ) → j < n → Qualifies t d arrival j → ⊥) → n ≤ t .count → anyBelow (qualifiesAt t d arrival) n ≡ false
-  none-placed n h l = go (anyBelow (qualifiesAt t d arrival) n) refl
+module _ (G : Net) (sound : Sound G) (a : ℕ) (first : Finding) (next : List ℕ → Finding) (d : EveryRoute G a first next) where
+  all-settled : d .all ≡ allRoutes G a
+  unfolding allRoutes
+  all-settled =
+      inc-unique (d .all) (allRoutes G a) (d .ordered) (all-increasing G a (only a)) (λ r m. all-are G sound a (only a) r .1 (d .each r .0 m))
+      (λ r m. d .each r .1 (all-are G sound a (only a) r .0 m))
+
+  next-settled : (r : List ℕ) → next r ≡ nextOf (allRoutes G a) r
+  unfolding allRoutes
+  next-settled r = go (either (isRoute G a (only a) r))
     where
-      go : (b : Bool) → anyBelow (qualifiesAt t d arrival) n ≡ b → anyBelow (qualifiesAt t d arrival) n ≡ false
-      go false e = e
-      go true e =
-          let f = first-found (qualifiesAt t d arrival) n e in
-          absurd (h (firstBelow (qualifiesAt t d arrival) n) (f .below) (placed _ (omega arith) (f .passes)))
+      go : (isRoute G a (only a) r ≡ true) ⊎ (isRoute G a (only a) r ≡ false) → next r ≡ nextOf (allRoutes G a) r
+      go (inl e) = gives-next (d .given) (d .once) r (d .each r .1 (isRoute-yes G a (only a) r e)) ∙ ap (λ l. nextOf l r) all-settled
+      go (inr e) =
+          let n : RouteFrom G a r → ⊥ = λ p. both-ways (isRoute-of G p) e in
+          d .refused r n ∙ sym (next-absent (allRoutes G a) r (λ m. n (all-sound G a (only a) r m)))
 
-  first-tested : (k : ℕ) → First t d arrival k → FirstAt (qualifiesAt t d arrival) (t .count) k
-  first-tested k f = record {
-    below = f .qualifies .counts;
-    passes = tested k (f .qualifies);
-    none-before = none-placed k (f .none-before) (omega (arith, f .qualifies .counts));
-  }
+pub no-other : NoOther
+no-other G sound a first next d =
+    record { first-is = gives-first (d .given) ∙ ap firstOf (all-settled G sound a first next d); next-is = next-settled G sound a first next d }
 
--- a way out is no refusal, and one way out no other
-out-refused : {p : Port} {n : ℕ} → Out p ≡ Refused n → ⊥
-out-refused h = let z : _≡_ {A = ℕ} 0 1 = cc in omega arith
+-- ---- least, short
 
-out-same : {p q : Port} → Out p ≡ Out q → p ≡ q
-out-same h = cc
+pub first-is-least : FirstLeast
+unfolding allRoutes
+first-is-least G sound a = first-least G sound a (only a)
 
-local-same : {p q : Port} → Local p ≡ Local q → p ≡ q
-local-same h = cc
+pub next-is-least : NextLeast
+unfolding allRoutes
+next-is-least G sound a r p = next-least G sound a (only a) r p
 
-module _ (t : Table) (d : Address) (arrival : Port) (taken : Taken t d arrival) (other : isOwn t d ≡ false) where
-  choice-out : chooseOf t d arrival ≡ outOf t d arrival
-  choice-out = chosen-out t d arrival (taken .table) (taken .call) other
+pub short-routes : ShortRoutes
+short-routes G sound a h r p = route-short G sound a h r p
 
-  choice-first : (k : ℕ) → First t d arrival k → chooseOf t d arrival ≡ Out (entryAt t k .port)
-  choice-first k f = choice-out ∙ out-found t d arrival k (first-tested t d arrival k f)
+-- ---- off links and twin links
 
-  -- demand 2, routes
-  pub next-route : NextRoute t d arrival
-  next-route = record {
-    leaves = λ p. (by-first p (anyBelow qualifying (t .count)) refl, λ w. choice-first (w .0) (w .1) ∙ ap Out (sym (w .2)));
-    refused = (
-      λ h k q.
-          let f = first-found qualifying (t .count) (any-found qualifying (t .count) k (q .counts) (tested t d arrival k q)) in
-          out-refused (sym (choice-first _ (first-placed t d arrival _ f)) ∙ h),
-      λ n. choice-out ∙ out-none t d arrival (none-placed t d arrival (t .count) (λ j l. n j) (omega arith)),
-    );
-  }
+module _ (G : Net) (i : ℕ) (off : (n : ℕ) → G .far i n ≡ none) where
+  off-from : {at : ℕ} {met : ℕ → Bool} {r : List ℕ} → IsRoute G at met r → List·Memᴰ i r → ⊥
+  off-from (arrived e) m = List·Memᴰ·not-nil m
+  off-from {at = at} (passed {i = j} {f = f} {r = r} ne l e m p) h = go (off-from p) (List·Memᴰ·cases-cons h)
     where
-      qualifying : ℕ → Bool
-      qualifying = qualifiesAt t d arrival
+      go : (List·Memᴰ i r → ⊥) → (i ≡ j) ⊎ List·Memᴰ i r → ⊥
+      go below (inl q) =
+          let w : G .far i at ≡ G .far j at = ap (λ (k : ℕ). G .far k at) q in
+          Option·none-ne-some f (sym (off at) ∙ w ∙ e)
+      go below (inr k) = below k
 
-      by-first : (p : Port) (b : Bool) → anyBelow qualifying (t .count) ≡ b → chooseOf t d arrival ≡ Out p
-          → (k : ℕ) × First t d arrival k × (p ≡ entryAt t k .port)
-      by-first p true e h =
-          let f = first-placed t d arrival _ (first-found qualifying (t .count) e) in
-          (firstBelow qualifying (t .count), f, out-same (sym h ∙ choice-first _ f))
-      by-first p false e h = absurd (out-refused (sym h ∙ choice-out ∙ out-none t d arrival e))
+pub off-links : OffLinks
+off-links G a i off r p h = off-from G i off p h
 
--- ---- when each answer is given
+module _ (G : Net) (i j : ℕ) (twins : (n : ℕ) → G .far i n ≡ G .far j n) (there : j < G .links) where
+  twin-from : {at : ℕ} {met : ℕ → Bool} (p r : List ℕ) → IsRoute G at met (p ++ (i ∷ r)) → IsRoute G at met (p ++ (j ∷ r))
+  twin-from {at = at} [] r (passed ne l e m q) = passed ne there (sym (twins at) ∙ e) m q
+  twin-from (k ∷ p) r (passed ne l e m q) = passed ne l e m (twin-from p r q)
 
--- what a choice is, whatever the tests say
-record Told (table call own way : Bool) (c : Choice) : Type 0 where
-  is-50 : eqb (choiceNumber c) 50 ≡ not table
-  is-51 : eqb (choiceNumber c) 51 ≡ (table && not call)
-  is-52 : eqb (choiceNumber c) 52 ≡ (table && call && (not own && not way))
-  is-local : choiceLocal c ≡ (table && call && own)
-  numbered : among (choiceNumber c) choiceNumbers ≡ true
+unlike : (i j : ℕ) → (i ≡ j → ⊥) → (p r : List ℕ) → p ++ (i ∷ r) ≡ p ++ (j ∷ r) → ⊥
+unlike i j ne [] r e = ne (head-eq-of-cons-eq e)
+unlike i j ne (k ∷ p) r e = unlike i j ne p r (tail-eq-of-cons-eq e)
 
-by-tests : (table call own way : Bool) (here out : Port) → Told table call own way (choiceBy table call own way here out)
-by-tests false call own way here out = record { is-50 = refl; is-51 = refl; is-52 = refl; is-local = refl; numbered = refl }
-by-tests true false own way here out = record { is-50 = refl; is-51 = refl; is-52 = refl; is-local = refl; numbered = refl }
-by-tests true true true way here out = record { is-50 = refl; is-51 = refl; is-52 = refl; is-local = refl; numbered = refl }
-by-tests true true false true here out = record { is-50 = refl; is-51 = refl; is-52 = refl; is-local = refl; numbered = refl }
-by-tests true true false false here out = record { is-50 = refl; is-51 = refl; is-52 = refl; is-local = refl; numbered = refl }
-
-module _ (t : Table) (d : Address) (arrival : Port) where
-  told : Told (tableInRange t) (callInRange d arrival) (isOwn t d) (hasRoute t d arrival) (chooseOf t d arrival)
-  unfolding chooseOf outOf
-  told = by-tests (tableInRange t) (callInRange d arrival) (isOwn t d) (hasRoute t d arrival) (d .port) (outPort t d arrival)
-
-  -- a refusal has its number
-  refused-by : (n : ℕ) → chooseOf t d arrival ≡ Refused n → eqb (choiceNumber (chooseOf t d arrival)) n ≡ true
-  refused-by n h = eq-eqb (choiceNumber (chooseOf t d arrival)) n (ap choiceNumber h)
-
-  passed : (tableInRange t && callInRange d arrival) ≡ true → Taken t d arrival
-  passed h = record { table = and-left (tableInRange t) _ h; call = and-right (tableInRange t) _ h }
-
-  -- when each answer is given
-  pub answers : Answers t d arrival
-  unfolding hasRoute
-  answers = record {
-    refused-50 = (λ h. no-not _ (sym (told .is-50) ∙ refused-by 50 h), chosen-50 t d arrival);
-    refused-51 = (
-      λ h.
-          let e = sym (told .is-51) ∙ refused-by 51 h in
-          (and-left (tableInRange t) _ e, no-not _ (and-right (tableInRange t) _ e)),
-      λ w. chosen-51 t d arrival (w .0) (w .1),
-    );
-    refused-52 = (
-      λ h.
-          let e = sym (told .is-52) ∙ refused-by 52 h in
-          let n = and-right (tableInRange t && callInRange d arrival) _ e in
-          (passed (and-left (tableInRange t && callInRange d arrival) _ e), no-not _ (and-left (not (isOwn t d)) _ n), no-not _ (and-right (not (isOwn t d)) _ n)),
-      λ w. chosen-out t d arrival (w .0 .table) (w .0 .call) (w .1) ∙ out-none t d arrival (w .2),
-    );
-    local = λ p. (
-      λ h.
-          let e = sym (told .is-local) ∙ ap choiceLocal h in
-          let k = passed (and-left (tableInRange t && callInRange d arrival) _ e) in
-          let o = and-right (tableInRange t && callInRange d arrival) _ e in
-          (k, o, local-same (sym h ∙ chosen-here t d arrival (k .table) (k .call) o)),
-      λ w. chosen-here t d arrival (w .0 .table) (w .0 .call) (w .1) ∙ ap Local (sym (w .2)),
-    );
-  }
-
-  -- the numbers that a choice gives
-  pub choice-numbers : among (choiceNumber (chooseOf t d arrival)) choiceNumbers ≡ true
-  choice-numbers = told .numbered
-
--- ---- entries past the count
-
-module _ (t t' : Table) (a : Alike t t') where
-  same-strays : anyBelow (strayEntry t) (t .count) ≡ anyBelow (strayEntry t') (t' .count)
-  unfolding strayEntry
-  same-strays =
-      any-agree (strayEntry t) (strayEntry t') (t .count) (λ i l. ap (λ (e : Entry). not (entryInRange e)) (a .entries i l))
-      ∙ ap (anyBelow (strayEntry t')) (a .count)
-
-  same-table : tableInRange t ≡ tableInRange t'
-  unfolding tableInRange
-  same-table = λ i. leb (a .count i) mostEntries && stationInRange (record { brigade = a .brigade i; node = a .node i }) && not (same-strays i)
-
-  module _ (d : Address) (arrival : Port) where
-    same-own : isOwn t d ≡ isOwn t' d
-    unfolding isOwn
-    same-own = λ i. sameStation (record { brigade = a .brigade i; node = a .node i }) (stationOf d)
-
-    same-test : (i : ℕ) → i < t .count → qualifiesAt t d arrival i ≡ qualifiesAt t' d arrival i
-    unfolding qualifiesAt
-    same-test i l = ap (qualifies d arrival) (a .entries i l)
-
-    same-has : hasRoute t d arrival ≡ hasRoute t' d arrival
-    unfolding hasRoute
-    same-has = any-agree (qualifiesAt t d arrival) (qualifiesAt t' d arrival) (t .count) same-test ∙ ap (anyBelow (qualifiesAt t' d arrival)) (a .count)
-
-    same-port : hasRoute t d arrival ≡ true → outPort t d arrival ≡ outPort t' d arrival
-    unfolding hasRoute outPort
-    same-port h =
-        ap (λ (e : Entry). e .port) (a .entries _ (first-found (qualifiesAt t d arrival) (t .count) h .below))
-        ∙ ap (λ (k : ℕ). entryAt t' k .port) (first-agree (qualifiesAt t d arrival) (qualifiesAt t' d arrival) (t .count) same-test ∙ ap (firstBelow (qualifiesAt t' d arrival)) (a .count))
-
-    same-out : outOf t d arrival ≡ outOf t' d arrival
-    unfolding outOf
-    same-out = go (hasRoute t d arrival) refl
-      where
-        go : (b : Bool) → hasRoute t d arrival ≡ b → cond (hasRoute t d arrival) (Out (outPort t d arrival)) (Refused 52) ≡ cond (hasRoute t' d arrival) (Out (outPort t' d arrival)) (Refused 52)
-        go true e = rw (← same-has, e) (ap Out (same-port e))
-        go false e = rw (← same-has, e)
-
-    same-choice : chooseOf t d arrival ≡ chooseOf t' d arrival
-    unfolding chooseOf
-    same-choice = λ i. cond (not (same-table i)) (Refused 50) (cond (not (callInRange d arrival)) (Refused 51) (cond (same-own i) (Local (d .port)) (same-out i)))
-
-  -- entries past the count make no difference
-  pub past-count : PastCount t t'
-  past-count = record { table = same-table; choice = same-choice }
+pub twin-links : TwinLinks
+twin-links G a i j twins there ne p r q = record { route = twin-from G i j twins there p r q; other = unlike i j ne p r }

@@ -1,60 +1,75 @@
--- What the choice says taken together. proofs/Promises.antt has the theorems.
-use Prim.Native.Nat.{ℕ, _<_}
+-- What routes, their order and their list say taken together (document 01, "Routes and their order"). proofs/Promises.antt has the theorems.
 use mathlib.Core.Path.{_≡_}
-use mathlib.Core.Bool.{true, false}
-use mathlib.Core.List.{List, [], _∷_}
-use Rattle.address.specs.declared.Port.{Port}
-use Rattle.address.specs.declared.Address.{Address}
-use Rattle.route.specs.declared.Table.{Table}
-use Rattle.route.specs.declared.Choice.the-variants.{Local, Out, Refused}
-use Rattle.route.specs.Route.{entryAt, isOwn, covers, hasRoute, tableInRange, callInRange, chooseOf}
+use mathlib.Core.Logic.{_⊎_, _↔_}
+use mathlib.Core.Option.{none}
+use mathlib.Core.List.{List, [], _∷_, _++_, List·Memᴰ}
+use Prim.Native.Nat.{ℕ, _<_}
+use lib.ListN.{length}
+use Rattle.route.specs.Route.{Net, Sound, RouteFrom, Before, Increasing, NoneTwice}
+use Rattle.route.specs.All.{allRoutes, Finding, route, noMore, noRoute, firstOf, nextOf}
 
--- one holds exactly if the other does
-abbrev pub Exactly : Type 0 → Type 0 → Type 0
-Exactly A B = (A → B) × (B → A)
+-- the first answer, then the next after each, until told that there are no more: these routes, in this order
+pub data Gives (next : List ℕ → Finding) : Finding → List (List ℕ) → Type 0 where
+  ended : Gives next noMore []
+  another : {r : List ℕ} {l : List (List ℕ)} → Gives next (next r) l → Gives next (route r) (r ∷ l)
 
-module _ (t : Table) (d : Address) (arrival : Port) where
-  -- the call is neither 50 nor 51
-  pub record Taken : Type 0 where
-    pub table : tableInRange t ≡ true
-    pub call : callInRange d arrival ≡ true
+-- demand 3 of a first answer and of answers to what comes next: they give every route, each once, in order; from a node to itself the empty
+-- one alone; and what is no route is told so
+pub record EveryRoute (G : Net) (a : ℕ) (first : Finding) (next : List ℕ → Finding) : Type 0 where
+  pub all : List (List ℕ)
+  pub given : Gives next first all
+  pub each : (r : List ℕ) → List·Memᴰ r all ↔ RouteFrom G a r
+  pub once : NoneTwice all
+  pub ordered : Increasing all
+  pub itself : a ≡ G .goal → all ≡ [] ∷ []
+  pub refused : (r : List ℕ) → (RouteFrom G a r → ⊥) → next r ≡ noRoute
 
-  -- the entry at a place counts, is on, takes in the destination, and does not leave by the arrival port
-  pub record Qualifies (k : ℕ) : Type 0 where
-    pub counts : k < t .count
-    pub on : entryAt t k .on ≡ true
-    pub matches : covers (entryAt t k .target) d ≡ true
-    pub other-port : entryAt t k .port .0 ≡ arrival .0 → ⊥
+-- the first and the next in the list of all routes do that
+abbrev pub ListGivesAll : Type 0
+ListGivesAll = (G : Net) → Sound G → (a : ℕ) → EveryRoute G a (firstOf (allRoutes G a)) (nextOf (allRoutes G a))
 
-  -- it does all that, and no entry before it does
-  pub record First (k : ℕ) : Type 0 where
-    pub qualifies : Qualifies k
-    pub none-before : (j : ℕ) → j < k → Qualifies j → ⊥
+-- these answers are the list's own
+pub record TheseAnswers (G : Net) (a : ℕ) (first : Finding) (next : List ℕ → Finding) : Type 0 where
+  pub first-is : first ≡ firstOf (allRoutes G a)
+  pub next-is : (r : List ℕ) → next r ≡ nextOf (allRoutes G a) r
 
-  -- demand 2, routes: a message for another node leaves by the first entry that qualifies, and is refused a route exactly if none does
-  pub record NextRoute : Type 0 where
-    pub leaves : (p : Port) → Exactly (chooseOf t d arrival ≡ Out p) ((k : ℕ) × First k × (p ≡ entryAt t k .port))
-    pub refused : Exactly (chooseOf t d arrival ≡ Refused 52) ((k : ℕ) → Qualifies k → ⊥)
+-- no other answers give every route so
+abbrev pub NoOther : Type 0
+NoOther = (G : Net) → Sound G → (a : ℕ) (first : Finding) (next : List ℕ → Finding) → EveryRoute G a first next → TheseAnswers G a first next
 
-  -- when each other answer is given, of any call: the refusals in their order; local for the own station, from any arrival port in range
-  pub record Answers : Type 0 where
-    pub refused-50 : Exactly (chooseOf t d arrival ≡ Refused 50) (tableInRange t ≡ false)
-    pub refused-51 : Exactly (chooseOf t d arrival ≡ Refused 51) ((tableInRange t ≡ true) × (callInRange d arrival ≡ false))
-    pub refused-52 : Exactly (chooseOf t d arrival ≡ Refused 52) (Taken × (isOwn t d ≡ false) × (hasRoute t d arrival ≡ false))
-    pub local : (p : Port) → Exactly (chooseOf t d arrival ≡ Local p) (Taken × (isOwn t d ≡ true) × (p ≡ d .port))
+-- s is the least of those that P holds of
+pub record LeastOf (P : List ℕ → Type 0) (s : List ℕ) : Type 0 where
+  pub it : P s
+  pub least : (q : List ℕ) → P q → (q ≡ s) ⊎ Before s q
 
--- the numbers that a choice gives
-abbrev pub choiceNumbers : List ℕ
-choiceNumbers = 0 ∷ 50 ∷ 51 ∷ 52 ∷ []
+-- what an answer says of P: the least one, or that there is none
+abbrev pub Says : (List ℕ → Type 0) → Finding → Type 0
+Says P (route s) = LeastOf P s
+Says P noMore = (q : List ℕ) → P q → ⊥
+Says P noRoute = ⊥
 
--- two tables that differ only past the count
-pub record Alike (t t' : Table) : Type 0 where
-  pub brigade : t .brigade ≡ t' .brigade
-  pub node : t .node ≡ t' .node
-  pub count : t .count ≡ t' .count
-  pub entries : (i : ℕ) → i < t .count → entryAt t i ≡ entryAt t' i
+-- the first is the least route
+abbrev pub FirstLeast : Type 0
+FirstLeast = (G : Net) → Sound G → (a : ℕ) → Says (RouteFrom G a) (firstOf (allRoutes G a))
 
--- entries past the count make no difference
-pub record PastCount (t t' : Table) : Type 0 where
-  pub table : tableInRange t ≡ tableInRange t'
-  pub choice : (d : Address) (arrival : Port) → chooseOf t d arrival ≡ chooseOf t' d arrival
+-- the next after a route is the least of those that come after it
+abbrev pub NextLeast : Type 0
+NextLeast = (G : Net) → Sound G → (a : ℕ) (r : List ℕ) → RouteFrom G a r → Says (λ q. RouteFrom G a q × Before r q) (nextOf (allRoutes G a) r)
+
+-- a route has fewer links than there are nodes: with 16 nodes at most 15
+abbrev pub ShortRoutes : Type 0
+ShortRoutes = (G : Net) → Sound G → (a : ℕ) → a < G .nodes → (r : List ℕ) → RouteFrom G a r → length r < G .nodes
+
+-- a link that cannot be passed from any node, as one that is off, is in no route
+abbrev pub OffLinks : Type 0
+OffLinks = (G : Net) (a i : ℕ) → ((n : ℕ) → G .far i n ≡ none) → (r : List ℕ) → RouteFrom G a r → List·Memᴰ i r → ⊥
+
+-- s is a route, and another than r
+pub record TwoRoutes (G : Net) (a : ℕ) (r s : List ℕ) : Type 0 where
+  pub route : RouteFrom G a s
+  pub other : r ≡ s → ⊥
+
+-- two links between the same nodes are two: where one is in a route, the other in its place makes another route
+abbrev pub TwinLinks : Type 0
+TwinLinks = (G : Net) (a i j : ℕ) → ((n : ℕ) → G .far i n ≡ G .far j n) → j < G .links → (i ≡ j → ⊥) → (p r : List ℕ)
+    → RouteFrom G a (p ++ (i ∷ r)) → TwoRoutes G a (p ++ (i ∷ r)) (p ++ (j ∷ r))

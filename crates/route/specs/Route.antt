@@ -1,135 +1,53 @@
--- The next route (document 01, "The next route").
-use Prim.Native.Nat.{ℕ}
-use mathlib.Core.Bool.{Bool, true, false, not, _&&_, _||_, cond}
-use lib.Dec.{leb, eqb}
-use Rattle.lists.specs.Places.{anyBelow, firstBelow, elementAt}
-use Rattle.lists.specs.Refusals.{refuse}
-use Rattle.address.specs.declared.Port.{Port}
-use Rattle.address.specs.declared.Station.{Station}
-use Rattle.address.specs.declared.Address.{Address}
-use Rattle.address.specs.Address.{largestPort, stationOf, stationInRange, inRange, sameStation}
-use Rattle.route.specs.declared.Target.{Target}
-use Rattle.route.specs.declared.Target.the-variants.{One, Brigade, Everything}
-use Rattle.route.specs.declared.Entry.{Entry}
-use Rattle.route.specs.declared.Table.{Table}
-use Rattle.route.specs.declared.Choice.{Choice}
-use Rattle.route.specs.declared.Choice.the-variants.{Local, Out, Refused}
+-- Routes and their order (document 01, "Routes and their order"). Nodes and links go by their places.
+use mathlib.Core.Path.{_≡_}
+use mathlib.Core.Bool.{Bool, false, _||_}
+use mathlib.Core.Option.{Option, some}
+use mathlib.Core.List.{List, [], _∷_, List·Memᴰ}
+use Prim.Native.Nat.{ℕ, _<_}
+use lib.Dec.{eqb}
 
--- ---- the table
+-- What routes go over: how many nodes and links there are, the node that is asked for, and the far end of a link for one who stands
+-- at a node: none where the link cannot be passed from there, because it is off or has no end there.
+pub record Net : Type 0 where
+  pub nodes : ℕ
+  pub links : ℕ
+  pub far : ℕ → ℕ → Option ℕ
+  pub goal : ℕ
 
--- a table has at most 32 entries
-abbrev pub mostEntries : ℕ
-mostEntries = 32
+-- every far end is a node
+abbrev pub Sound : Net → Type 0
+Sound G = (i a f : ℕ) → G .far i a ≡ some f → f < G .nodes
 
--- the station whose table it is
-abbrev pub ownStation : Table → Station
-ownStation t = record { brigade = t .brigade; node = t .node }
+-- the nodes met, as a test: those so far, and f
+unfoldable pub also : ℕ → (ℕ → Bool) → ℕ → Bool
+also f met n = eqb n f || met n
 
--- what stands at a place without an entry: everything, port 0, off
-abbrev pub noEntry : Entry
-noEntry = record { target = Everything; port = record { 0 = 0 }; on = false }
+-- only the node that one begins at is met
+unfoldable pub only : ℕ → ℕ → Bool
+only a = also a (λ n. false)
 
--- the entry at a place
-unfoldable pub entryAt : Table → ℕ → Entry
-entryAt t i = elementAt noEntry (t .entries) i
+-- A route on from a node, with some nodes met: at the goal it is empty; elsewhere it is a link to a node that is not met, and a route on
+-- from there with that node met too.
+pub data IsRoute (G : Net) : ℕ → (ℕ → Bool) → List ℕ → Type 0 where
+  arrived : {at : ℕ} {met : ℕ → Bool} → at ≡ G .goal → IsRoute G at met []
+  passed : {at i f : ℕ} {met : ℕ → Bool} {r : List ℕ} → ¬ (at ≡ G .goal) → i < G .links → G .far i at ≡ some f → met f ≡ false
+      → IsRoute G f (also f met) r → IsRoute G at met (i ∷ r)
 
--- ---- the choice
+-- a route from a node: no other node is met yet
+abbrev pub RouteFrom : Net → ℕ → List ℕ → Type 0
+RouteFrom G a r = IsRoute G a (only a) r
 
--- the destination has the own brigade and node
-unfoldable pub isOwn : Table → Address → Bool
-isOwn t d = sameStation (ownStation t) (stationOf d)
+-- one route comes before another: at the first place where they differ it has the smaller link place
+pub data Before : List ℕ → List ℕ → Type 0 where
+  smaller : {i j : ℕ} {r s : List ℕ} → i < j → Before (i ∷ r) (j ∷ s)
+  alike : {i j : ℕ} {r s : List ℕ} → i ≡ j → Before r s → Before (i ∷ r) (j ∷ s)
 
--- the target takes in the destination: it is its node, or its whole brigade, or everything
-unfoldable pub covers : Target → Address → Bool
-covers (One brigade node) d = sameStation (record { brigade = brigade; node = node }) (stationOf d)
-covers (Brigade brigade) d = eqb brigade (d .brigade)
-covers Everything d = true
+-- each comes before all that follow it
+abbrev pub Increasing : List (List ℕ) → Type 0
+Increasing [] = Unit {0}
+Increasing (r ∷ l) = ((s : List ℕ) → List·Memᴰ s l → Before r s) × Increasing l
 
--- the entry is on, its out port is not the arrival port, and it matches
-unfoldable pub qualifies : Address → Port → Entry → Bool
-qualifies d arrival e = e .on && not (eqb (e .port .0) (arrival .0)) && covers (e .target) d
-
-module _ (t : Table) (d : Address) (arrival : Port) where
-  -- the entry at a place qualifies
-  unfoldable pub qualifiesAt : ℕ → Bool
-  qualifiesAt i = qualifies d arrival (entryAt t i)
-
-  -- some entry that counts qualifies
-  unfoldable pub hasRoute : Bool
-  hasRoute = anyBelow qualifiesAt (t .count)
-
-  -- the out port of the first entry that qualifies
-  unfoldable pub outPort : Port
-  outPort = entryAt t (firstBelow qualifiesAt (t .count)) .port
-
-  -- out by that port; 52 where no entry qualifies
-  unfoldable pub outOf : Choice
-  outOf = cond hasRoute (Out outPort) (Refused 52)
-
-  -- the choice where table and call are in range: local at the destination's port, or the way out. A table that counts more entries than it has is 50
-  unfoldable pub wayOf : Choice
-  wayOf =
-      cond (not (leb (t .count) mostEntries)) (Refused 50)
-      (cond (isOwn t d) (Local (d .port))
-      outOf)
-
--- ---- the refusals
-
--- a node that is named is at most 1023
-unfoldable pub targetInRange : Target → Bool
-targetInRange (One brigade node) = stationInRange (record { brigade = brigade; node = node })
-targetInRange (Brigade brigade) = true
-targetInRange Everything = true
-
--- the out port is 1 to 63, and the target is in range
-unfoldable pub entryInRange : Entry → Bool
-entryInRange e = leb 1 (e .port .0) && leb (e .port .0) largestPort && targetInRange (e .target)
-
--- the entry at a place is out of range
-unfoldable pub strayEntry : Table → ℕ → Bool
-strayEntry t i = not (entryInRange (entryAt t i))
-
--- the count is at most 32, the own node is in range (every brigade is), and no entry that counts is out of range
-unfoldable pub tableInRange : Table → Bool
-tableInRange t = leb (t .count) mostEntries && stationInRange (ownStation t) && not (anyBelow (strayEntry t) (t .count))
-
--- the destination and the arrival port are in range; arrival port 0 is that of a message that began here
-unfoldable pub callInRange : Address → Port → Bool
-callInRange d arrival = inRange d && leb (arrival .0) largestPort
-
-module _ (t : Table) (d : Address) (arrival : Port) where
-  -- the choice: 50 for the table, then 51 for the call, then local at the destination's port, or the way out
-  unfoldable pub chooseOf : Choice
-  chooseOf =
-      cond (not (tableInRange t)) (Refused 50)
-      (cond (not (callInRange d arrival)) (Refused 51)
-      (cond (isOwn t d) (Local (d .port))
-      (outOf t d arrival)))
-
-  -- document 01's numbers in their order: 52 is for a destination that is not the own station and has no route
-  unfoldable pub routeRefusal : ℕ
-  routeRefusal =
-      refuse 50 (not (tableInRange t))
-      (refuse 51 (not (callInRange d arrival))
-      (refuse 52 (not (isOwn t d || hasRoute t d arrival))
-      0))
-
-  -- the port that stands beside no refusal: the destination's own where it is local, else the out port
-  unfoldable pub wayPort : ℕ
-  wayPort = cond (isOwn t d) (d .port .0) (outPort t d arrival .0)
-
--- document 01's number and values for each case of a choice: 0 stands beside a port, 0 and false stand beside a refusal
-abbrev pub choiceNumber : Choice → ℕ
-choiceNumber (Local p) = 0
-choiceNumber (Out p) = 0
-choiceNumber (Refused n) = n
-
-abbrev pub choiceLocal : Choice → Bool
-choiceLocal (Local p) = true
-choiceLocal (Out p) = false
-choiceLocal (Refused n) = false
-
-abbrev pub choicePort : Choice → ℕ
-choicePort (Local p) = p .0
-choicePort (Out p) = p .0
-choicePort (Refused n) = 0
+-- none stands twice
+abbrev pub NoneTwice : List (List ℕ) → Type 0
+NoneTwice [] = Unit {0}
+NoneTwice (r ∷ l) = (List·Memᴰ r l → ⊥) × NoneTwice l

@@ -1,44 +1,42 @@
-// What C calls for the next route (include/poztecameh.h): the choice by the table that an image stands for.
-use address::Address;
-use address::Node;
-use address::Port;
-use route::Choice;
+// What C calls for the routes that a chart's bytes ask for (include/poztecameh.h): the first, and the next after one.
+use route_search::Traced;
 ghost use mathlib.Core.Path.{_≡_};
-ghost use Rattle.address.specs.Address.{addressOf};
-ghost use Rattle.route_door.specs.Calls.{chooseNumberFor, localFor, outFor};
+ghost use Rattle.route_door.specs.Routes.{oneNumber, pzFirst, pzNext};
 
-// Where a message for the destination goes that came in by the arrival port: `local` 1, for this node at port `out`, or 0, out by port `out`.
-#[no_mangle]
-pub extern "C" fn pz_choose(
-    table: &[u8],
-    brigade: u8,
-    node: u16,
-    port: u8,
-    arrival: u8,
-    local: &mut u8,
-    out: &mut u8,
-) -> u8
-    ensures { λ r. ⌜ (r ≡ chooseNumberFor (now (table .entry)) (addressOf brigade node port) (record { 0 = arrival })) × (now (local .exit) ≡ localFor (now (table .entry)) (addressOf brigade node port) (record { 0 = arrival })) × (now (out .exit) ≡ outFor (now (table .entry)) (addressOf brigade node port) (record { 0 = arrival })) ⌝ }
+// Document 01's one number: the route's length, or the refusal.
+fn one_number(t: Traced) -> u8
+    ensures { λ r. ⌜ r ≡ oneNumber t ⌝ }
 {
-    *local = 0;
-    *out = 0;
-    let t = table_image::table_of(table);
-    let d = Address {
-        brigade,
-        node: Node(node),
-        port: Port(port),
-    };
-    let choice = route::choose(t, d, Port(arrival));
-    match choice {
-        Choice::Local(p) => {
-            *local = 1;
-            *out = p.0;
-            0
-        }
-        Choice::Out(p) => {
-            *out = p.0;
-            0
-        }
-        Choice::Refused(n) => n,
+    match t {
+        Traced::Route(n) => n,
+        Traced::Refused(k) => k,
     }
+}
+
+// Writes the first route; the length is not looked at.
+#[no_mangle]
+pub extern "C" fn pz_first(chart: &[u8], route: &mut [u8], length: usize) -> u8
+    ensures { λ r. ⌜ (r ≡ oneNumber (pzFirst (now (chart .entry)) (now (route .entry)) .answer)) × (now (route .exit) ≡ pzFirst (now (chart .entry)) (now (route .entry)) .bytes) ⌝ }
+{
+    let read = chart_read::read_chart(chart);
+    let refusal = read.refusal;
+    if refusal != 0 {
+        return refusal;
+    }
+    let c = read.chart;
+    one_number(route_trace::first_known(c, route))
+}
+
+// Writes the route after the one of this length.
+#[no_mangle]
+pub extern "C" fn pz_next(chart: &[u8], route: &mut [u8], length: usize) -> u8
+    ensures { λ r. ⌜ (r ≡ oneNumber (pzNext (now (chart .entry)) (now (route .entry)) length .answer)) × (now (route .exit) ≡ pzNext (now (chart .entry)) (now (route .entry)) length .bytes) ⌝ }
+{
+    let read = chart_read::read_chart(chart);
+    let refusal = read.refusal;
+    if refusal != 0 {
+        return refusal;
+    }
+    let c = read.chart;
+    one_number(route_trace::next_known(c, route, length))
 }

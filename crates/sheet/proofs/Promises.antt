@@ -6,13 +6,13 @@ use mathlib.Core.List.{List, List·Memᴰ}
 use native.Mathlib.Omega.{arith}
 use lib.ListN.{length, length-append}
 use lib.Dec.{ltb, leb}
-use Rattle.lists.specs.Bytes.{Bytes}
+use Rattle.buffer.specs.Bytes.{Bytes}
 use Rattle.lists.specs.Places.{anyBelow, joined}
 use Rattle.lists.specs.Refusals.{unlessRefused}
 use Rattle.lists.proofs.Bools.{and-left, and-right}
-use Rattle.lists.specs.declared.Written.the-variants.{Wrote}
+use Rattle.buffer.specs.declared.Written.the-variants.{Wrote}
 use Rattle.lists.proofs.Runs.{joined-most}
-use Rattle.lists.proofs.Writing.{wrote-size}
+use Rattle.buffer.proofs.Writing.{wrote-size}
 use Rattle.address.specs.declared.Address.{Address}
 use Rattle.address.specs.Address.{stationInRange, inRange}
 use Rattle.chart.specs.declared.ChartNode.{ChartNode}
@@ -21,23 +21,23 @@ use Rattle.chart.specs.declared.Chart.{Chart}
 use Rattle.chart.specs.Values.{nodeAt, linkAt, strayByte, nodeInRange, endInRange, linkInRange}
 use Rattle.chart.proofs.Laws.{question-passed}
 use Rattle.chart_read.specs.declared.ChartRead.{ChartRead}
-use Rattle.chart_read.specs.Reading.{chartReadOf}
-use Rattle.chart_numbers.specs.Numbers.{chartNumber}
-use Rattle.chart_numbers.proofs.Laws.{Passed, passed, node-of, link-of}
+use Rattle.chart_read.specs.Reading.{readChartOf}
+use Rattle.chart_refuse.specs.Refusal.{chartRefusal}
+use Rattle.chart_refuse.proofs.Laws.{Passed, passed, node-of, link-of}
 use Rattle.chart_write.proofs.Accepted.{accepted}
-use Rattle.routes.specs.Route.{only}
-use Rattle.routes.specs.All.{allRoutes}
-use Rattle.routes.proofs.Laws.{all-sound}
-use Rattle.routes.proofs.Promises.{short-routes}
+use Rattle.route.specs.Route.{only}
+use Rattle.route.specs.All.{allRoutes}
+use Rattle.route.proofs.Laws.{all-sound}
+use Rattle.route.proofs.Promises.{short-routes}
 use Rattle.chart_net.specs.Net.{chartNet, start, routesOf}
 use Rattle.chart_net.proofs.Promises.{accepted-ends}
-use Rattle.sheet_numbers.specs.Lines.{countsLine, refusedLine}
-use Rattle.sheet_numbers.proofs.Lengths.{counts-long, refused-long}
+use Rattle.sheet_lines.specs.Lines.{countsLine, refusedLine}
+use Rattle.sheet_lines.proofs.NumberLengths.{counts-long, refused-long}
 use Rattle.sheet_lines.specs.Lines.{nodeLine, linkLine}
 use Rattle.sheet_lines.proofs.Lengths.{node-long, link-long, question-long}
 use Rattle.sheet_routes.specs.RouteLines.{routeLine, listText}
 use Rattle.sheet_routes.proofs.Lengths.{route-long, list-long}
-use Rattle.sheet.specs.Sheet.{longLine, place, lineAt, chartText, readText, sheetText, sheetRefusal, sheetWriteOf}
+use Rattle.sheet.specs.Sheet.{longLine, place, lineAt, chartText, readText, sheetText, sheetRefusal, writeSheetOf}
 use Rattle.sheet.specs.Promises.{SheetShort}
 use Rattle.sheet.proofs.Laws.{read-accepted}
 
@@ -54,7 +54,7 @@ unfolding linkInRange
 link-ends l h =
     (end-in (l .a) (and-left (endInRange (l .a)) (endInRange (l .b)) h), end-in (l .b) (and-right (endInRange (l .a)) (endInRange (l .b)) h))
 
-module _ (c : Chart) (ok : chartNumber c ≡ 0) where
+module _ (c : Chart) (ok : chartRefusal c ≡ 0) where
   p : Passed c
   p = passed c ok
 
@@ -103,23 +103,23 @@ unfolding unlessRefused
 either-long zero a b h l = h refl
 either-long (suc k) a b h l = l
 
-read-long : (r : ChartRead) → (r .number ≡ 0 → chartNumber (r .chart) ≡ 0) → length (readText r) ≤ 47129
+read-long : (r : ChartRead) → (r .refusal ≡ 0 → chartRefusal (r .chart) ≡ 0) → length (readText r) ≤ 47129
 unfolding readText
 read-long r ok =
-    let l = refused-long (r .number) (r .place) in
-    either-long (r .number) (chartText (r .chart)) (refusedLine (r .number) (r .place)) (λ z. chart-long (r .chart) (ok z)) (omega arith)
+    let l = refused-long (r .refusal) (r .place) in
+    either-long (r .refusal) (chartText (r .chart)) (refusedLine (r .refusal) (r .place)) (λ z. chart-long (r .chart) (ok z)) (omega arith)
 
 pub sheet-short : SheetShort
 unfolding sheetText
 sheet-short bytes s = go (ltb 4096 (length bytes))
   where
-    go : (b : Bool) → length (cond b longLine (readText (chartReadOf bytes))) ≤ 47129
+    go : (b : Bool) → length (cond b longLine (readText (readChartOf bytes))) ≤ 47129
     go true = omega arith
-    go false = read-long (chartReadOf bytes) (read-accepted bytes s (chartReadOf bytes) refl)
+    go false = read-long (readChartOf bytes) (read-accepted bytes s (readChartOf bytes) refl)
 
 -- so is what a writing gives
-pub wrote-short : (bytes : List ℕ) → Bytes bytes → (room n : ℕ) → sheetWriteOf bytes room ≡ Wrote n → n ≤ 47129
-unfolding sheetWriteOf
+pub wrote-short : (bytes : List ℕ) → Bytes bytes → (room n : ℕ) → writeSheetOf bytes room ≡ Wrote n → n ≤ 47129
+unfolding writeSheetOf
 wrote-short bytes s room n e =
     let h : length (sheetText bytes) ≤ 47129 = sheet-short bytes s in
     let k : n ≡ length (sheetText bytes) = wrote-size n (sheetRefusal bytes room) (length (sheetText bytes)) e .1 in

@@ -3,20 +3,20 @@ use Prim.Native.Nat.{ℕ}
 use mathlib.Core.Path.{_≡_, refl}
 use mathlib.Core.List.{List, [], _∷_, _++_}
 use lib.ListN.{replicate}
-use Rattle.lists.specs.Places.{anyBelow, firstBelow, elementAt, firsts, row, joined}
+use Rattle.lists.specs.Places.{anyBelow, firstFrom, firstBelow, elementAt, firsts, row, joined}
 use Rattle.lists.specs.Refusals.{unlessRefused}
 use Rattle.address.specs.Address.{stationInRange, inRange, sameStation, sameAddress}
-use Rattle.chart.specs.Values.{noChart, nodeAt, linkAt, strayByte, nodeInRange, endInRange, linkInRange, standsAt, written, endsAt, used}
-use Rattle.chart.specs.Numbers.{nodeBy, linkBy, questionBy, nodeNumber, linkNumber, questionNumber}
+use Rattle.chart.specs.Values.{noChart, nodeAt, linkAt, strayByte, nodeInRange, endInRange, linkInRange, standsAt, hasNode, endsAt, hasEnd}
+use Rattle.chart.specs.Refusals.{nodeRefusalBy, linkRefusalBy, questionRefusalBy, nodeRefusal, linkRefusal, questionRefusal}
 use Rattle.chart.specs.Sample.{bytesS}
 use Rattle.chart_read.specs.Fields.{bytesFrom, nodeIn, linkIn}
-use Rattle.chart_read.specs.Reading.{nothing, withNode, withLink, withQuestion, withBody, nodeLate, refusing, nodeBodyNumber, linkBodyNumber, questionBodyNumber, bodyNumber, fieldNumber, walk, chartReadOf}
-use Rattle.routes.specs.Route.{also, only}
-use Rattle.routes.specs.All.{upFrom, linksFrom, over, tries, routes, unmet, allFrom, allRoutes}
-use Rattle.chart_net.specs.Net.{placeIn, crossed, farIn, chartNet, start, routesOf}
+use Rattle.chart_read.specs.Reading.{nothing, withNode, withLink, withQuestion, withBody, nodeLate, refusing, nodeBodyRefusal, linkBodyRefusal, questionBodyRefusal, bodyRefusal, fieldRefusal, walk, readChartOf}
+use Rattle.route.specs.Route.{also, only}
+use Rattle.route.specs.All.{upFrom, linksFrom, over, tries, routes, unmet, allFrom, allRoutes}
+use Rattle.chart_net.specs.Net.{stationPlace, farEnd, chartNet, start, routesOf}
 use Rattle.text.specs.Marks.{ascii}
 use Rattle.text.specs.Decimal.{digits}
-use Rattle.sheet_numbers.specs.Lines.{countsLine, refusedLine}
+use Rattle.sheet_lines.specs.Lines.{countsLine, refusedLine}
 use Rattle.sheet_lines.specs.Lines.{stationText, endText, labelText, nodeLine, linkLine, questionLine}
 use Rattle.sheet_routes.specs.RouteLines.{placesText, routeLine, listText}
 use Rattle.sheet.specs.Sheet.{lineAt, chartText, readText, sheetText}
@@ -55,5 +55,5 @@ pub record Cases : Type 0 where
   pub long : sheetText (replicate 4097 1) ≡ ascii "too long\n"
 
 pub cases : Cases
-unfolding sheetText readText chartText lineAt joined stationText endText labelText nodeLine linkLine countsLine questionLine refusedLine placesText routeLine listText digits chartReadOf walk unlessRefused nothing noChart fieldNumber bodyNumber refusing nodeBodyNumber linkBodyNumber questionBodyNumber nodeLate nodeIn linkIn bytesFrom withBody withNode withLink withQuestion nodeBy linkBy questionBy nodeNumber linkNumber questionNumber nodeInRange linkInRange endInRange stationInRange inRange sameStation sameAddress written used standsAt endsAt nodeAt linkAt strayByte anyBelow firstBelow elementAt firsts row also only upFrom linksFrom over tries routes unmet allFrom allRoutes placeIn crossed farIn chartNet start routesOf bytesS textS
+unfolding sheetText readText chartText lineAt joined stationText endText labelText nodeLine linkLine countsLine questionLine refusedLine placesText routeLine listText digits readChartOf walk unlessRefused nothing noChart fieldRefusal bodyRefusal refusing nodeBodyRefusal linkBodyRefusal questionBodyRefusal nodeLate nodeIn linkIn bytesFrom withBody withNode withLink withQuestion nodeRefusalBy linkRefusalBy questionRefusalBy nodeRefusal linkRefusal questionRefusal nodeInRange linkInRange endInRange stationInRange inRange sameStation sameAddress hasNode hasEnd standsAt endsAt nodeAt linkAt strayByte anyBelow firstBelow firstFrom elementAt firsts row also only upFrom linksFrom over tries routes unmet allFrom allRoutes stationPlace farEnd chartNet start routesOf bytesS textS
 cases = record { whole = refl; one = refl; none = refl; bad = refl; long = refl }

@@ -2,7 +2,7 @@
 use Prim.Native.Nat.{ℕ, _≤_}
 use mathlib.Core.List.{List}
 use lib.ListN.{length}
-use Rattle.lists.specs.Bytes.{Bytes}
+use Rattle.buffer.specs.Bytes.{Bytes}
 use Rattle.sheet.specs.Sheet.{sheetText}
 
 -- at most 18 bytes for the counts, 37 for each of 16 nodes, 31 for each of 48 links, 26 for the question, 45 for each of 1,000 routes, and 5 for the last line

@@ -2,19 +2,19 @@
 use Prim.Native.Nat.{ℕ}
 use mathlib.Core.Bool.{cond}
 use mathlib.Core.List.{List, _++_}
-use lib.ListN.{length, drop}
+use lib.ListN.{length}
 use lib.Dec.{ltb}
 use Rattle.lists.specs.Places.{joined}
 use Rattle.lists.specs.Refusals.{refuse, unlessRefused}
-use Rattle.lists.specs.declared.Written.{Written}
-use Rattle.lists.specs.Writing.{wroteUnless}
+use Rattle.buffer.specs.declared.Written.{Written}
+use Rattle.buffer.specs.Writing.{wroteUnless, lentAfter}
 use Rattle.chart.specs.declared.Chart.{Chart}
 use Rattle.chart.specs.Values.{nodeAt, linkAt}
 use Rattle.chart_read.specs.declared.ChartRead.{ChartRead}
-use Rattle.chart_read.specs.Reading.{chartReadOf}
+use Rattle.chart_read.specs.Reading.{readChartOf}
 use Rattle.chart_net.specs.Net.{routesOf}
 use Rattle.text.specs.Marks.{ascii}
-use Rattle.sheet_numbers.specs.Lines.{countsLine, refusedLine}
+use Rattle.sheet_lines.specs.Lines.{countsLine, refusedLine}
 use Rattle.sheet_lines.specs.Lines.{nodeLine, linkLine, questionLine}
 use Rattle.sheet_routes.specs.RouteLines.{listText}
 
@@ -48,20 +48,20 @@ chartText c =
 
 -- the sheet of a chart that was read, or the one line of a refused one
 unfoldable pub readText : ChartRead → List ℕ
-readText r = unlessRefused (r .number) (chartText (r .chart)) (refusedLine (r .number) (r .place))
+readText r = unlessRefused (r .refusal) (chartText (r .chart)) (refusedLine (r .refusal) (r .place))
 
 -- the sheet of an input
 unfoldable pub sheetText : List ℕ → List ℕ
-sheetText bytes = cond (ltb longestInput (length bytes)) longLine (readText (chartReadOf bytes))
+sheetText bytes = cond (ltb longestInput (length bytes)) longLine (readText (readChartOf bytes))
 
 -- 10: the text does not fit
 unfoldable pub sheetRefusal : List ℕ → ℕ → ℕ
 sheetRefusal bytes room = refuse 10 (ltb room (length (sheetText bytes))) 0
 
 -- the number of bytes written, or 10
-unfoldable pub sheetWriteOf : List ℕ → ℕ → Written
-sheetWriteOf bytes room = wroteUnless (sheetRefusal bytes room) (length (sheetText bytes))
+unfoldable pub writeSheetOf : List ℕ → ℕ → Written
+writeSheetOf bytes room = wroteUnless (sheetRefusal bytes room) (length (sheetText bytes))
 
--- what the buffer then holds: the text, and what stood after it; where it does not fit what it held
+-- what the buffer then holds
 unfoldable pub sheetAfter : List ℕ → List ℕ → List ℕ
-sheetAfter bytes out = unlessRefused (sheetRefusal bytes (length out)) (sheetText bytes ++ drop (length (sheetText bytes)) out) out
+sheetAfter bytes out = lentAfter (sheetRefusal bytes (length out)) (sheetText bytes) out

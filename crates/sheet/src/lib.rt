@@ -1,18 +1,18 @@
 // The printed sheet (document 01, "The printed sheet"): what is printed of an input, in a lent buffer.
+use buffer::Written;
 use chart::Chart;
 use chart::Links;
 use chart::Nodes;
-use chart_net::ends_of;
-use chart_net::place_of;
-use chart_net::ways_of;
+use chart_net::ends_for;
+use chart_net::passages_for;
+use chart_net::place_for;
 use chart_read::ChartRead;
 use chart_read::read_chart;
-use lists::Written;
+use sheet_lines::put_counts;
 use sheet_lines::put_link;
 use sheet_lines::put_node;
 use sheet_lines::put_question;
-use sheet_numbers::put_counts;
-use sheet_numbers::put_refused;
+use sheet_lines::put_refused;
 use sheet_routes::put_routes;
 use text::put_bytes;
 ghost use mathlib.Core.Path.{_≡_};
@@ -20,14 +20,14 @@ ghost use Prim.Native.Nat.{_≤_};
 ghost use lib.ListN.{length};
 ghost use Rattle.lists.specs.Places.{joined};
 ghost use Rattle.lists.specs.Refusals.{unlessRefused};
-ghost use Rattle.lists.specs.Writing.{writeNumber, writeCount};
-ghost use Rattle.chart.specs.Values.{nodeAt, linkAt};
-ghost use Rattle.chart_numbers.specs.Numbers.{chartNumber};
+ghost use Rattle.buffer.specs.Writing.{writtenRefusal, writtenCount};
+ghost use Rattle.chart.specs.Values.{mostLinks, mostNodes, nodeAt, linkAt};
+ghost use Rattle.chart_refuse.specs.Refusal.{chartRefusal};
 ghost use Rattle.chart_net.specs.Net.{routesOf};
-ghost use Rattle.text.specs.Laying.{Laid};
+ghost use Rattle.text.specs.Contracts.{Laid};
 ghost use Rattle.sheet_lines.specs.Lines.{nodeLine, linkLine};
 ghost use Rattle.sheet_routes.specs.RouteLines.{listText};
-ghost use Rattle.sheet.specs.Sheet.{place, lineAt, mostRoutes, chartText, readText, sheetText, sheetRefusal, sheetWriteOf, sheetAfter};
+ghost use Rattle.sheet.specs.Sheet.{place, lineAt, mostRoutes, chartText, readText, sheetText, sheetRefusal, writeSheetOf, sheetAfter};
 
 // An input above this is not looked at.
 pub const LONGEST_INPUT: usize = 4096;
@@ -40,7 +40,7 @@ pub const LONGEST_SHEET: usize = 47129;
 
 // The node lines.
 fn put_nodes(out: &mut [u8], at: usize, nodes: Nodes) -> usize
-    requires { ⌜ nodes .count ≤ 16 ⌝ }
+    requires { ⌜ nodes .count ≤ mostNodes ⌝ }
     ensures { λ r. ⌜ Laid (now (out .entry)) at (joined (lineAt nodeLine (nodeAt nodes)) place (nodes .count)) (now (out .exit)) r ⌝ }
 {
     let mut next = at;
@@ -55,7 +55,7 @@ fn put_nodes(out: &mut [u8], at: usize, nodes: Nodes) -> usize
 
 // The link lines.
 fn put_links(out: &mut [u8], at: usize, links: Links) -> usize
-    requires { ⌜ links .count ≤ 48 ⌝ }
+    requires { ⌜ links .count ≤ mostLinks ⌝ }
     ensures { λ r. ⌜ Laid (now (out .entry)) at (joined (lineAt linkLine (linkAt links)) place (links .count)) (now (out .exit)) r ⌝ }
 {
     let mut next = at;
@@ -70,15 +70,15 @@ fn put_links(out: &mut [u8], at: usize, links: Links) -> usize
 
 // The route lines of an accepted chart, and the last line.
 fn put_chart_routes(out: &mut [u8], at: usize, c: Chart) -> usize
-    requires { ⌜ chartNumber c ≡ 0 ⌝ }
+    requires { ⌜ chartRefusal c ≡ 0 ⌝ }
     ensures { λ r. ⌜ Laid (now (out .entry)) at (listText mostRoutes (routesOf c)) (now (out .exit)) r ⌝ }
 {
     let nodes = c.nodes;
     let links = c.links;
-    let ends = ends_of(nodes, links);
-    let ways = ways_of(links);
-    let from = place_of(nodes, c.from);
-    let to = place_of(nodes, c.to);
+    let ends = ends_for(nodes, links);
+    let ways = passages_for(links);
+    let from = place_for(nodes, c.from);
+    let to = place_for(nodes, c.to);
     put_routes(
         out,
         at,
@@ -93,7 +93,7 @@ fn put_chart_routes(out: &mut [u8], at: usize, c: Chart) -> usize
 
 // The sheet of an accepted chart.
 fn put_chart(out: &mut [u8], at: usize, c: Chart) -> usize
-    requires { ⌜ chartNumber c ≡ 0 ⌝ }
+    requires { ⌜ chartRefusal c ≡ 0 ⌝ }
     ensures { λ r. ⌜ Laid (now (out .entry)) at (chartText c) (now (out .exit)) r ⌝ }
 {
     let nodes = c.nodes;
@@ -107,11 +107,11 @@ fn put_chart(out: &mut [u8], at: usize, c: Chart) -> usize
 
 // The sheet of a chart as it was read, or the line of a refused one.
 fn put_read(out: &mut [u8], at: usize, r: ChartRead) -> usize
-    requires { ⌜ (r .number ≡ 0 → chartNumber (r .chart) ≡ 0) ⌝ }
+    requires { ⌜ (r .refusal ≡ 0 → chartRefusal (r .chart) ≡ 0) ⌝ }
     ensures { λ n. ⌜ Laid (now (out .entry)) at (readText r) (now (out .exit)) n ⌝ }
 {
-    if r.number != 0 {
-        return put_refused(out, at, r.number, r.place);
+    if r.refusal != 0 {
+        return put_refused(out, at, r.refusal, r.place);
     }
     let c = r.chart;
     put_chart(out, at, c)
@@ -129,11 +129,11 @@ fn put_sheet(out: &mut [u8], at: usize, bytes: &[u8]) -> usize
 }
 
 // Writes the sheet of an input at the start of out, and gives the number of bytes written; 10 where there is no room for all of it. In a buffer that may
-// be too short it is written into no room first, which tells its length.
+// be too short it is measured first, by writing it into an empty one.
 pub fn write_sheet(bytes: &[u8], out: &mut [u8]) -> Written
-    ensures { λ r. ⌜ r ≡ sheetWriteOf (now (bytes .entry)) (length (now (out .entry))) ⌝ }
-    ensures number { λ r. ⌜ writeNumber r ≡ sheetRefusal (now (bytes .entry)) (length (now (out .entry))) ⌝ }
-    ensures count { λ r. ⌜ writeCount r ≡ unlessRefused (sheetRefusal (now (bytes .entry)) (length (now (out .entry)))) (length (sheetText (now (bytes .entry)))) 0 ⌝ }
+    ensures { λ r. ⌜ r ≡ writeSheetOf (now (bytes .entry)) (length (now (out .entry))) ⌝ }
+    ensures refusal { λ r. ⌜ writtenRefusal r ≡ sheetRefusal (now (bytes .entry)) (length (now (out .entry))) ⌝ }
+    ensures count { λ r. ⌜ writtenCount r ≡ unlessRefused (sheetRefusal (now (bytes .entry)) (length (now (out .entry)))) (length (sheetText (now (bytes .entry)))) 0 ⌝ }
     ensures buffer { λ _. ⌜ now (out .exit) ≡ sheetAfter (now (bytes .entry)) (now (out .entry)) ⌝ }
 {
     if LONGEST_SHEET <= out.len() {

@@ -1,5 +1,5 @@
 // What C calls for a printed sheet (include/poztecameh.h): an input in, its text out.
-use lists::Written;
+use buffer::Written;
 ghost use mathlib.Core.Path.{_≡_};
 ghost use lib.ListN.{length};
 ghost use Rattle.lists.specs.Refusals.{unlessRefused};
@@ -12,7 +12,7 @@ pub extern "C" fn pz_sheet(chart: &[u8], text: &mut [u8], written: &mut u32) -> 
 {
     *written = 0;
     match sheet::write_sheet(chart, text) {
-        Written::Refused(number) => number,
+        Written::Refused(refusal) => refusal,
         Written::Wrote(n) => {
             *written = n as u32;
             0

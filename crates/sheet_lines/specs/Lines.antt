@@ -1,4 +1,4 @@
--- The lines of the printed sheet for nodes, links and the question (document 01, "The printed sheet"), as ASCII codes; each ends with one line feed.
+-- The lines of the printed sheet but its routes (document 01, "The printed sheet"), as ASCII codes; each ends with one line feed.
 -- `a ++ b ++ c` is `(a ++ b) ++ c`: what was laid is joined in the same order.
 use Prim.Native.Nat.{ℕ}
 use mathlib.Core.Path.{_≡_, refl}
@@ -43,6 +43,14 @@ linkLine i l = decimal i ++ blank ++ endText (l .a) ++ blank ++ endText (l .b) +
 -- the question
 unfoldable pub questionLine : Station → Station → List ℕ
 questionLine from to = ascii "from " ++ stationText from ++ ascii " to " ++ stationText to ++ lf
+
+-- the first line: the two counts
+unfoldable pub countsLine : ℕ → ℕ → List ℕ
+countsLine nodes links = ascii "nodes " ++ decimal nodes ++ ascii " links " ++ decimal links ++ lf
+
+-- a refused chart: the number and the place
+unfoldable pub refusedLine : ℕ → ℕ → List ℕ
+refusedLine number place = ascii "refused " ++ decimal number ++ ascii " at " ++ decimal place ++ lf
 
 -- a label, an empty one, and a link that is off
 pub record Samples : Type 0 where

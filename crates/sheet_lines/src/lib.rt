@@ -1,4 +1,4 @@
-// The lines of the printed sheet for nodes, links and the question (document 01, "The printed sheet").
+// The lines of the printed sheet but its routes (document 01, "The printed sheet").
 use address::Address;
 use address::Station;
 use chart::ChartNode;
@@ -8,10 +8,15 @@ use text::put_bytes;
 use text::put_number;
 ghost use mathlib.Core.List.{_++_};
 ghost use lib.ListN.{take};
-ghost use Rattle.text.specs.Laying.{Laid};
+ghost use Rattle.text.specs.Contracts.{Laid};
 ghost use Rattle.text.specs.Marks.{blank, lf};
 ghost use Rattle.text.specs.Decimal.{decimal};
 ghost use Rattle.sheet_lines.specs.Lines.{stationText, endText, labelText, nodeLine, onOff, linkLine, questionLine};
+
+mod numbers;
+
+pub use numbers::put_counts;
+pub use numbers::put_refused;
 
 // Some bytes, and a number after them.
 fn put_numbered(out: &mut [u8], at: usize, before: &[u8], n: usize) -> usize

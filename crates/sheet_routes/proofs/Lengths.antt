@@ -5,7 +5,7 @@ use mathlib.Core.Bool.{Bool}
 use mathlib.Core.List.{List, [], _∷_, List·Memᴰ, List·Memᴰ·head, List·Memᴰ·tail}
 use native.Mathlib.Omega.{arith}
 use lib.ListN.{length, length-append}
-use Rattle.routes.specs.Route.{Net, IsRoute, arrived, passed}
+use Rattle.route.specs.Route.{Net, IsRoute, arrived, passed}
 use Rattle.text.specs.Decimal.{decimal}
 use Rattle.text.proofs.Lengths.{two}
 use Rattle.sheet_routes.specs.RouteLines.{placesText, routeLine, listText}

@@ -6,7 +6,7 @@ use native.Mathlib.Numerals.{add-one}
 use native.Mathlib.Omega.{arith}
 use lib.ListN.{length, drop, getD, drop-of-length-le}
 use lib.Seq.{drop-cons}
-use Rattle.text.specs.Laying.{Laid}
+use Rattle.text.specs.Contracts.{Laid}
 use Rattle.text.specs.Marks.{ascii, blank, lf}
 use Rattle.text.specs.Decimal.{decimal}
 use Rattle.text.proofs.Joining.{rest}

@@ -1,2 +1,2 @@
 pub mod RouteLines
-pub mod Listing
+pub mod Contracts

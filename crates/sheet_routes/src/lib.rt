@@ -1,20 +1,21 @@
 // The route lines of the printed sheet (document 01, "The printed sheet"), from one route to the next.
-use search::LONGEST_ROUTE;
-use search::MOST_LINKS;
-use search::MOST_NODES;
-use search::Traced;
-use search::first_route;
-use search::next_route;
+use chart::MOST_LINKS;
+use chart::MOST_NODES;
+use route_search::LONGEST_ROUTE;
+use route_search::Traced;
+use route_search::first_route;
+use route_search::next_route;
 use text::put_byte;
 use text::put_bytes;
 use text::put_number;
 ghost use mathlib.Core.Path.{_≡_};
 ghost use Prim.Native.Nat.{_≤_, _<_};
 ghost use lib.ListN.{drop};
-ghost use Rattle.search.specs.Answers.{routesIn};
-ghost use Rattle.text.specs.Laying.{Laid};
+ghost use Rattle.route_search.specs.Contracts.{routesOver};
+ghost use Rattle.text.specs.Contracts.{Laid};
 ghost use Rattle.sheet_routes.specs.RouteLines.{placesText, routeLine, endLine, moreLine, listText};
-ghost use Rattle.sheet_routes.specs.Listing.{routeLength, routesHeld};
+ghost use Rattle.sheet_routes.specs.Contracts.{routeLength, routesHeld};
+ghost use Rattle.chart.specs.Values.{mostLinks, mostNodes};
 
 // Each place of a route but its first, after a blank.
 fn put_places(out: &mut [u8], at: usize, r: &[u8]) -> usize
@@ -77,8 +78,8 @@ fn put_list(
     to: u8,
     most: usize,
 ) -> usize
-    requires { ⌜ links ≤ 48 ⌝ ∗ ⌜ from < 16 ⌝ }
-    ensures { λ r. ⌜ Laid (now (out .entry)) at (listText most (routesIn ends ways links from to)) (now (out .exit)) r ⌝ }
+    requires { ⌜ links ≤ mostLinks ⌝ ∗ ⌜ from < mostNodes ⌝ }
+    ensures { λ r. ⌜ Laid (now (out .entry)) at (listText most (routesOver ends ways links from to)) (now (out .exit)) r ⌝ }
 {
     let mut buf = [0u8; 15];
     let mut n = route_length(first_route(ends, ways, links, from, to, &mut buf));
@@ -111,7 +112,7 @@ pub fn put_routes(
 ) -> usize
     ensures { λ r. ⌜ Laid (now (out .entry)) at (listText most (routesHeld ends ways links from to)) (now (out .exit)) r ⌝ }
 {
-    if MOST_LINKS < links {
+    if (MOST_LINKS as usize) < links {
         return put_last(out, at);
     }
     if MOST_NODES <= from {

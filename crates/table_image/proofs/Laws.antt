@@ -6,12 +6,12 @@ use mathlib.Core.List.{List}
 use lib.Dec.{ltb}
 use lib.ListN.{length, getD}
 use borrow.Author.Tests.{leb-true, lt-ltb, le-ltb}
-use Rattle.lists.specs.Bytes.{wordAt}
+use Rattle.buffer.specs.Bytes.{wordAt}
 use Rattle.lists.specs.Places.{anyBelow, row}
-use Rattle.route.specs.declared.Entry.{Entry}
-use Rattle.route.specs.declared.Table.{Table}
-use Rattle.route.specs.Route.{noEntry}
-use Rattle.table_image.specs.Table.{entryCount, heldEntry, strayEntryIn, strayEntryAt, readableTable, tableIn, brokenTable, tableOf}
+use Rattle.table.specs.declared.Entry.{Entry}
+use Rattle.table.specs.declared.Table.{Table}
+use Rattle.table.specs.Table.{noEntry}
+use Rattle.table_image.specs.Table.{entryCount, entryHeld, strayEntryIn, strayEntryHeld, readableTable, tableIn, brokenTable, tableOf}
 use Rattle.lists.proofs.Bools.{all-three}
 
 -- an image that can be read
@@ -32,10 +32,10 @@ module _ (b : List ℕ) where
   pub readable : readableTable b ≡ true → Readable b
   unfolding readableTable
   readable h =
-      let w = all-three _ _ (anyBelow (strayEntryAt b) (entryCount b)) h in
+      let w = all-three _ _ (anyBelow (strayEntryHeld b) (entryCount b)) h in
       record { long = leb-true 196 (length b) (w .0); few = leb-true (entryCount b) 32 (w .1 .0) }
 
-  pub table-read : readableTable b ≡ true → {entries : List Entry} → entries ≡ row 32 noEntry (heldEntry b) (entryCount b) → {n : ℕ} → n ≡ wordAt b 1
+  pub table-read : readableTable b ≡ true → {entries : List Entry} → entries ≡ row 32 noEntry (entryHeld b) (entryCount b) → {n : ℕ} → n ≡ wordAt b 1
       → _≡_ {A = Table} (record { brigade = getD b 0 0; node = record { 0 = n }; count = entryCount b; entries = entries }) (tableOf b)
   unfolding tableOf tableIn
   table-read h e w = rw (h, e, w)

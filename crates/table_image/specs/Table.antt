@@ -5,16 +5,23 @@ use mathlib.Core.Bool.{Bool, not, _&&_, _||_, cond}
 use mathlib.Core.List.{List}
 use lib.Dec.{leb, ltb, eqb}
 use lib.ListN.{length, getD, replicate}
-use Rattle.lists.specs.Bytes.{wordAt}
+use Rattle.buffer.specs.Bytes.{wordAt}
 use Rattle.lists.specs.Places.{anyBelow, row}
-use Rattle.route.specs.declared.Target.{Target}
-use Rattle.route.specs.declared.Target.the-variants.{One, Brigade, Everything}
-use Rattle.route.specs.declared.Entry.{Entry}
-use Rattle.route.specs.declared.Table.{Table}
-use Rattle.route.specs.Route.{mostEntries, noEntry}
+use Rattle.table.specs.declared.Target.{Target}
+use Rattle.table.specs.declared.Target.the-variants.{One, Brigade, Everything}
+use Rattle.table.specs.declared.Entry.{Entry}
+use Rattle.table.specs.declared.Table.{Table}
+use Rattle.table.specs.Table.{mostEntries, noEntry}
 
 abbrev pub tableSize : ℕ
 tableSize = 196
+
+-- where the entries begin, and the bytes of each
+abbrev pub entriesStart : ℕ
+entriesStart = 4
+
+abbrev pub entrySize : ℕ
+entrySize = 6
 
 -- ---- an entry, 6 bytes
 
@@ -42,16 +49,16 @@ abbrev pub entryCount : List ℕ → ℕ
 entryCount b = getD b 3 0
 
 -- the entry at place i
-unfoldable pub heldEntry : List ℕ → ℕ → Entry
-heldEntry b i = entryIn b (4 + 6 * i)
+unfoldable pub entryHeld : List ℕ → ℕ → Entry
+entryHeld b i = entryIn b (entriesStart + entrySize * i)
 
 -- the bytes at place i are no entry's
-unfoldable pub strayEntryAt : List ℕ → ℕ → Bool
-strayEntryAt b i = strayEntryIn b (4 + 6 * i)
+unfoldable pub strayEntryHeld : List ℕ → ℕ → Bool
+strayEntryHeld b i = strayEntryIn b (entriesStart + entrySize * i)
 
 -- the image can be read: it is long enough, counts at most 32 entries, and none that counts is stray
 unfoldable pub readableTable : List ℕ → Bool
-readableTable b = leb tableSize (length b) && leb (entryCount b) mostEntries && not (anyBelow (strayEntryAt b) (entryCount b))
+readableTable b = leb tableSize (length b) && leb (entryCount b) mostEntries && not (anyBelow (strayEntryHeld b) (entryCount b))
 
 -- the table in it: places past the count are not looked at, and hold no entry
 unfoldable pub tableIn : List ℕ → Table
@@ -60,7 +67,7 @@ tableIn b =
       brigade = getD b 0 0;
       node = record { 0 = wordAt b 1 };
       count = entryCount b;
-      entries = row mostEntries noEntry (heldEntry b) (entryCount b);
+      entries = row mostEntries noEntry (entryHeld b) (entryCount b);
     }
 
 -- a table with one entry too many

@@ -1,18 +1,23 @@
 // The image of a routing table, 196 bytes: whether it can be read, and the table in it.
 use address::Node;
 use address::Port;
-use route::Entry;
-use route::MOST_ENTRIES;
-use route::Table;
-use route::Target;
+use table::Entry;
+use table::MOST_ENTRIES;
+use table::Table;
+use table::Target;
 ghost use mathlib.Core.Path.{_≡_};
 ghost use Prim.Native.Nat.{_+_, _≤_};
 ghost use lib.ListN.{length};
 ghost use Rattle.lists.specs.Places.{anyBelow};
-ghost use Rattle.route.specs.Route.{noEntry};
-ghost use Rattle.table_image.specs.Table.{targetOf, entryIn, strayEntryIn, strayEntryAt, readableTable, tableOf};
+ghost use Rattle.table.specs.Table.{mostEntries, noEntry};
+ghost use Rattle.table_image.specs.Table.{tableSize, targetOf, entryIn, strayEntryIn, strayEntryHeld, readableTable, tableOf};
 
 const TABLE_SIZE: usize = 196;
+
+// Where the entries begin, and the bytes of each.
+const ENTRIES_START: usize = 4;
+
+const ENTRY_SIZE: usize = 6;
 
 // The target of a kind.
 fn target_of(kind: u8, brigade: u8, node: u16) -> Target
@@ -30,7 +35,7 @@ fn entry_in(b: &[u8], at: usize) -> Entry
     requires { ⌜ at + 6 ≤ length (now b) ⌝ }
     ensures { λ r. ⌜ r ≡ entryIn (now (b .entry)) at ⌝ }
 {
-    let node = lists::word_at(b, at + 2);
+    let node = buffer::word_at(b, at + 2);
     let target = target_of(b[at], b[at + 1], node);
     Entry {
         target,
@@ -52,12 +57,12 @@ fn stray_entry(b: &[u8], at: usize) -> bool
 
 // Whether one of the first n places holds bytes that are no entry's.
 fn any_stray(b: &[u8], n: usize) -> bool
-    requires { ⌜ (n ≤ 32) × (196 ≤ length (now b)) ⌝ }
-    ensures { λ r. ⌜ r ≡ anyBelow (strayEntryAt (now (b .entry))) n ⌝ }
+    requires { ⌜ (n ≤ mostEntries) × (tableSize ≤ length (now b)) ⌝ }
+    ensures { λ r. ⌜ r ≡ anyBelow (strayEntryHeld (now (b .entry))) n ⌝ }
 {
     let mut i = 0;
     while i < n {
-        if stray_entry(b, 4 + 6 * i) {
+        if stray_entry(b, ENTRIES_START + ENTRY_SIZE * i) {
             return true;
         }
         i += 1;
@@ -108,11 +113,11 @@ pub fn table_of(b: &[u8]) -> Table
     let n = count as usize;
     let mut i = 0;
     while i < n {
-        let e = entry_in(b, 4 + 6 * i);
+        let e = entry_in(b, ENTRIES_START + ENTRY_SIZE * i);
         entries[i] = e;
         i += 1;
     }
-    let node = lists::word_at(b, 1);
+    let node = buffer::word_at(b, 1);
     Table {
         brigade: b[0],
         count,

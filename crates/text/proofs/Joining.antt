@@ -7,7 +7,7 @@ use native.Mathlib.Omega.{arith}
 use lib.ListN.{length, length-append}
 use lib.Seq.{sets, length-sets}
 use Rattle.lists.proofs.Stores.{sets-append, sets-past}
-use Rattle.text.specs.Laying.{Laid, last}
+use Rattle.text.specs.Contracts.{Laid, last}
 
 -- past the end nothing is stored, so a place past the largest usize may stay there
 min-by : (t l : List ℕ) (i : ℕ) → length l < last → Dec (i ≤ last) → sets l (min i last) t ≡ sets l i t

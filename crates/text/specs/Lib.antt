@@ -1,3 +1,3 @@
-pub mod Laying
+pub mod Contracts
 pub mod Marks
 pub mod Decimal

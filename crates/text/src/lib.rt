@@ -1,9 +1,9 @@
-// Text in a lent buffer: a byte past the end is not stored, and the place goes on counting. So a text that is written into no room tells its length,
+// Text in a lent buffer: a byte past the end is not stored, and the place goes on counting. So writing into an empty buffer measures a text,
 // and no writer asks anything of its caller.
 ghost use mathlib.Core.Path.{_≡_};
 ghost use mathlib.Core.List.{[], _∷_};
 ghost use Prim.Native.Nat.{_+_, min};
-ghost use Rattle.text.specs.Laying.{Laid, last};
+ghost use Rattle.text.specs.Contracts.{Laid, last};
 ghost use Rattle.text.specs.Decimal.{digits, decimal};
 
 // The largest usize: no slice is so long, and a place that would be past it stays there.
@@ -37,7 +37,7 @@ pub fn put_byte(out: &mut [u8], at: usize, b: u8) -> usize
 pub fn put_bytes(out: &mut [u8], at: usize, s: &[u8]) -> usize
     ensures { λ r. ⌜ Laid (now (out .entry)) at (now (s .entry)) (now (out .exit)) r ⌝ }
 {
-    lists::put_all(out, at, s);
+    buffer::put_all(out, at, s);
     past(at, s.len())
 }
 

@@ -7,7 +7,7 @@ use borrow.Author.Needs.{needs}
 use borrow.Author.Tests.{eq-eqb, ne-eqb}
 use Rattle.lists.specs.Places.{anyBelow}
 use Rattle.lists.proofs.Places.{any-none, any-more}
-use Rattle.chart_keys.specs.Keys.{keyIs}
+use Rattle.chart_refuse.specs.Contracts.{keyIs}
 use Rattle.chart_net.proofs.Places.{key-here, key-none}
 use Rattle.chart_net.proofs.find_node.Statement.{statement}
 use Rattle.chart_net.proofs.find_node.Tie as tie

@@ -3,7 +3,7 @@ use mathlib.Core.Path.{_≡_, ap, _∙_}
 use mathlib.Core.List.{[], _∷_}
 use borrow.Author.Needs.{needs}
 use Rattle.address.specs.Address.{stationOf}
-use Rattle.chart_net.specs.Arrays.{placeFor, endPlaces}
+use Rattle.chart_net.specs.Contracts.{stationPlaceFor, endPlaces}
 use Rattle.chart_net.proofs.link_ends.Statement.{statement}
 use Rattle.chart_net.proofs.link_ends.Tie as tie
 
@@ -23,8 +23,8 @@ returns : tie.Need-returns
 unfolding endPlaces
 returns c =
     let a = c .before .before .before .before .before .before .args in
-    let p : c .before .before .place-by .result ≡ placeFor (a .nodes) (stationOf (a .l .a)) = c .before .before .place-by .ensures ∙ ap (placeFor (a .nodes)) (c .before .before .before .station-of .ensures) in
-    let q : c .place-by2 .result ≡ placeFor (a .nodes) (stationOf (a .l .b)) = c .place-by2 .ensures ∙ ap (placeFor (a .nodes)) (c .before .station-of2 .ensures) in
+    let p : c .before .before .place-by .result ≡ stationPlaceFor (a .nodes) (stationOf (a .l .a)) = c .before .before .place-by .ensures ∙ ap (stationPlaceFor (a .nodes)) (c .before .before .before .station-of .ensures) in
+    let q : c .place-by2 .result ≡ stationPlaceFor (a .nodes) (stationOf (a .l .b)) = c .place-by2 .ensures ∙ ap (stationPlaceFor (a .nodes)) (c .before .station-of2 .ensures) in
     λ i. p i ∷ q i ∷ []
 
 pub link-ends-spec : {M : Type 1} → statement M

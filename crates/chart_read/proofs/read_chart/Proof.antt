@@ -6,24 +6,24 @@ use native.Mathlib.Omega.{arith}
 use lib.ListN.{length}
 use borrow.Author.Needs.{needs}
 use borrow.Author.Tests.{not-true, not-false}
-use Rattle.lists.specs.Bytes.{Bytes}
+use Rattle.buffer.specs.Bytes.{Bytes}
 use Rattle.chart_read.proofs.Holding.{Turn, Holding, Field, Taken, holding-start, refused-field, whole-field, node-room, node-length, holding-node, link-room, link-length, holding-link, holding-question, ends-unasked, ends-asked}
 use Rattle.chart_read.proofs.read_chart.Statement.{statement}
 use Rattle.chart_read.proofs.read_chart.Tie as tie
 
 abbrev Inv-loop : tie.InvT-loop
-Inv-loop bytes nodes₀ links₀ from₀ to₀ keys₀ near₀ far₀ n₀ m₀ asked₀ at₀ nodes links from to keys near far n m asked at =
-    Holding bytes (record { nodes = nodes; links = links; from = from; to = to; keys = keys; near = near; far = far; n = n; m = m; asked = asked; at = at })
+Inv-loop bytes nodes₀ links₀ from₀ to₀ keys₀ near₀ far₀ n₀ m₀ asked₀ at₀ nodes links from to keys akeys bkeys n m asked at =
+    Holding bytes (record { nodes = nodes; links = links; from = from; to = to; keys = keys; akeys = akeys; bkeys = bkeys; n = n; m = m; asked = asked; at = at })
 
 abbrev μ-loop : tie.MeasureT-loop
-μ-loop bytes nodes₀ links₀ from₀ to₀ keys₀ near₀ far₀ n₀ m₀ asked₀ at₀ nodes links from to keys near far n m asked at =
+μ-loop bytes nodes₀ links₀ from₀ to₀ keys₀ near₀ far₀ n₀ m₀ asked₀ at₀ nodes links from to keys akeys bkeys n m asked at =
     length bytes - at
 
 -- the loop's variables, the bytes, and that they are bytes
 abbrev turn : tie.At-loop Inv-loop μ-loop → Turn
 turn a =
     let l = a .loop in
-    record { nodes = l .nodes; links = l .links; from = l .from; to = l .to; keys = l .keys; near = l .near; far = l .far; n = l .n; m = l .m; asked = l .asked; at = l .at }
+    record { nodes = l .nodes; links = l .links; from = l .from; to = l .to; keys = l .keys; akeys = l .akeys; bkeys = l .bkeys; n = l .n; m = l .m; asked = l .asked; at = l .at }
 
 abbrev input : tie.At-loop Inv-loop μ-loop → List ℕ
 input a = a .before .before .before .before .before .before .args .bytes .now
@@ -32,17 +32,17 @@ abbrev all-bytes : (a : tie.At-loop Inv-loop μ-loop) → Bytes (input a)
 all-bytes a i = a .before .before .before .before .before .shared-slice-known .given i .fits
 
 -- the loop where a field's number is known, and the field
-abbrev here : tie.After-field-number Inv-loop μ-loop → tie.At-loop Inv-loop μ-loop
+abbrev here : tie.After-field-refusal Inv-loop μ-loop → tie.At-loop Inv-loop μ-loop
 here c = c .before .before .before .before .before
 
-field : (c : tie.After-field-number Inv-loop μ-loop) → Field (input (here c)) (turn (here c))
+field : (c : tie.After-field-refusal Inv-loop μ-loop) → Field (input (here c)) (turn (here c))
 field c = record { held = here c .loop .inv; all-bytes = all-bytes (here c); begins = c .before .before .before .before .loop-test .taken }
 
 -- a field that is taken, its body and the place past it at hand
 taken : (c : tie.After-past-field Inv-loop μ-loop) → let a = c .before .before .before in Taken (input (here a)) (turn (here a)) (c .before .body-at .result .now) (c .past-field .result)
 taken c =
     let a = c .before .before .before in
-    record { field = field a; zero = sym (a .field-number .ensures) ∙ c .before .before .if1 .left; body = c .before .body-at .ensures; past = c .past-field .ensures }
+    record { field = field a; zero = sym (a .field-refusal .ensures) ∙ c .before .before .if1 .left; body = c .before .body-at .ensures; past = c .past-field .ensures }
 
 no-node-requires : tie.Need-no-node-requires Inv-loop μ-loop
 no-node-requires c κs = search needs
@@ -53,19 +53,19 @@ no-link-requires c κs = search needs
 loop-holds : tie.Need-loop-holds Inv-loop μ-loop
 loop-holds c = holding-start (c .before .before .before .before .before .args .bytes .now) (c .before .before .before .no-node .result) (c .before .before .no-link .result) (c .before .before .before .no-node .ensures) (c .before .before .no-link .ensures)
 
-field-number-requires : tie.Need-field-number-requires Inv-loop μ-loop
-field-number-requires c κs = search needs
+field-refusal-requires : tie.Need-field-refusal-requires Inv-loop μ-loop
+field-refusal-requires c κs = search needs
 
 refused-at-requires : tie.Need-refused-at-requires Inv-loop μ-loop
 refused-at-requires c κs = search needs
 
 returns : tie.Need-returns Inv-loop μ-loop
-returns c = c .refused-at .ensures ∙ refused-field (field (c .before .before)) (c .before .before .field-number .ensures) (c .before .if1 .taken)
+returns c = c .refused-at .ensures ∙ refused-field (field (c .before .before)) (c .before .before .field-refusal .ensures) (c .before .if1 .taken)
 
 body-at-requires : tie.Need-body-at-requires Inv-loop μ-loop
 body-at-requires c κs =
     let f = field (c .before) in
-    (f .begins, whole-field f (sym (c .before .field-number .ensures) ∙ c .if1 .left))
+    (f .begins, whole-field f (sym (c .before .field-refusal .ensures) ∙ c .if1 .left))
 
 past-field-requires : tie.Need-past-field-requires Inv-loop μ-loop
 past-field-requires c κs = search needs
@@ -104,24 +104,24 @@ link-in-requires c κs = link-length (taken (c .before .before)) (c .match .keys
 end-key-requires : tie.Need-end-key-requires Inv-loop μ-loop
 end-key-requires c κs = search needs
 
-mul-near : tie.Need-mul-near Inv-loop μ-loop
-mul-near c = search needs
+mul-akeys : tie.Need-mul-akeys Inv-loop μ-loop
+mul-akeys c = search needs
 
-array-write-near : tie.Need-array-write-near Inv-loop μ-loop
-array-write-near c =
+array-write-akeys : tie.Need-array-write-akeys Inv-loop μ-loop
+array-write-akeys c =
     let f = taken (c .before .before .before .before) in
-    omega (arith, link-room f (c .before .before .match .keys2), f .field .held .long-near)
+    omega (arith, link-room f (c .before .before .match .keys2), f .field .held .long-akeys)
 
 end-key-requires-2 : tie.Need-end-key-requires-2 Inv-loop μ-loop
 end-key-requires-2 c κs = search needs
 
-mul-far : tie.Need-mul-far Inv-loop μ-loop
-mul-far c = search needs
+mul-bkeys : tie.Need-mul-bkeys Inv-loop μ-loop
+mul-bkeys c = search needs
 
-array-write-far : tie.Need-array-write-far Inv-loop μ-loop
-array-write-far c =
+array-write-bkeys : tie.Need-array-write-bkeys Inv-loop μ-loop
+array-write-bkeys c =
     let f = taken (c .before .before .before .before .before) in
-    omega (arith, link-room f (c .before .before .before .match .keys2), f .field .held .long-far)
+    omega (arith, link-room f (c .before .before .before .match .keys2), f .field .held .long-bkeys)
 
 mul-links : tie.Need-mul-links Inv-loop μ-loop
 mul-links c = search needs
@@ -184,7 +184,7 @@ read-chart-spec =
     no-node-requires
     no-link-requires
     loop-holds
-    field-number-requires
+    field-refusal-requires
     refused-at-requires
     returns
     body-at-requires
@@ -199,11 +199,11 @@ read-chart-spec =
     add-n
     link-in-requires
     end-key-requires
-    mul-near
-    array-write-near
+    mul-akeys
+    array-write-akeys
     end-key-requires-2
-    mul-far
-    array-write-far
+    mul-bkeys
+    array-write-bkeys
     mul-links
     array-set-from-links
     add-m

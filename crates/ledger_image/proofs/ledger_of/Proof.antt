@@ -7,7 +7,7 @@ use Rattle.lists.specs.Places.{row}
 use Rattle.lists.proofs.Bools.{told-no, told-yes}
 use Rattle.lists.proofs.Places.{row-none, row-next}
 use Rattle.ledger.specs.Rules.{noLeg}
-use Rattle.ledger_image.specs.Ledger.{legCount, heldLeg}
+use Rattle.ledger_image.specs.Ledger.{legCount, legHeld}
 use Rattle.ledger_image.proofs.LedgerLaws.{readable, ledger-read, ledger-unread}
 use native.Mathlib.Omega.{arith}
 use borrow.Author.Needs.{needs}
@@ -16,7 +16,7 @@ use Rattle.ledger_image.proofs.ledger_of.Tie as tie
 
 abbrev Inv-loop : tie.InvT-loop
 Inv-loop b legs₀ count n i₀ legs i =
-    (i ≤ n) × (n ≤ 128) × (1921 ≤ length b) × (legs ≡ row 128 noLeg (heldLeg b) i)
+    (i ≤ n) × (n ≤ 128) × (1921 ≤ length b) × (legs ≡ row 128 noLeg (legHeld b) i)
 
 abbrev μ-loop : tie.MeasureT-loop
 μ-loop b legs₀ count n i₀ legs i = n - i
@@ -44,7 +44,7 @@ loop-holds : tie.Need-loop-holds Inv-loop μ-loop
 loop-holds c =
     let b = c .before .before .before .before .before .args .b .now in
     let r = readable b (told-yes (c .before .before .readable-ledger .ensures) (c .before .if1 .left)) in
-    (omega arith, r .few, r .long, rw (c .before .before .before .no-leg .ensures) (sym (row-none 128 noLeg (heldLeg b))))
+    (omega arith, r .few, r .long, rw (c .before .before .before .no-leg .ensures) (sym (row-none 128 noLeg (legHeld b))))
 
 mul-leg-in : tie.Need-mul-leg-in Inv-loop μ-loop
 mul-leg-in c = search needs
@@ -68,13 +68,13 @@ loop-less : tie.Need-loop-less Inv-loop μ-loop
 loop-less c = search needs
 
 loop-again : tie.Need-loop-again Inv-loop μ-loop
-unfolding heldLeg
+unfolding legHeld
 loop-again c =
     let l = c .before .before .loop in (
       omega arith,
       l .inv .1,
       l .inv .2,
-      rw (c .leg-in .ensures, l .inv .3) (row-next 128 noLeg (heldLeg (c .before .before .before .before .before .before .before .before .args .b .now)) (l .i) (omega (arith, l .inv .1))),
+      rw (c .leg-in .ensures, l .inv .3) (row-next 128 noLeg (legHeld (c .before .before .before .before .before .before .before .before .args .b .now)) (l .i) (omega (arith, l .inv .1))),
     )
 
 returns-2 : tie.Need-returns-2 Inv-loop μ-loop
@@ -82,7 +82,7 @@ returns-2 c =
     let l = c .before .loop in
     let b = c .before .before .before .before .before .before .before .args .b .now in
     let e : l .i ≡ legCount b = omega (arith, l .inv .0) in
-    ledger-read b (told-yes (c .before .before .before .before .readable-ledger .ensures) (c .before .before .before .if1 .left)) (l .inv .3 ∙ ap (row 128 noLeg (heldLeg b)) e)
+    ledger-read b (told-yes (c .before .before .before .before .readable-ledger .ensures) (c .before .before .before .if1 .left)) (l .inv .3 ∙ ap (row 128 noLeg (legHeld b)) e)
 
 pub ledger-of-spec : {M : Type 1} → statement M
 ledger-of-spec =

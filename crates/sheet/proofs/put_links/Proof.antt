@@ -8,7 +8,7 @@ use Rattle.lists.specs.Places.{joined}
 use Rattle.lists.proofs.Places.{joined-none}
 use Rattle.chart.specs.Values.{linkAt}
 use Rattle.chart.proofs.Laws.{link-read}
-use Rattle.text.specs.Laying.{Laid}
+use Rattle.text.specs.Contracts.{Laid}
 use Rattle.text.proofs.Joining.{nothing, said}
 use Rattle.sheet_lines.specs.Lines.{linkLine}
 use Rattle.sheet.specs.Sheet.{place, lineAt}

@@ -8,7 +8,7 @@ use Rattle.lists.specs.Places.{joined}
 use Rattle.lists.proofs.Places.{joined-none}
 use Rattle.chart.specs.Values.{nodeAt}
 use Rattle.chart.proofs.Laws.{node-read}
-use Rattle.text.specs.Laying.{Laid}
+use Rattle.text.specs.Contracts.{Laid}
 use Rattle.text.proofs.Joining.{nothing, said}
 use Rattle.sheet_lines.specs.Lines.{nodeLine}
 use Rattle.sheet.specs.Sheet.{place, lineAt}

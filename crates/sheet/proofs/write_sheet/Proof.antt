@@ -1,11 +1,11 @@
--- `sheet::write_sheet` meets its contract: a buffer that holds any sheet is written at once; else a run into no room tells the length, and only a text
+-- `sheet::write_sheet` meets its contract: a buffer that holds any sheet is written at once; else writing into an empty one measures it, and only a text
 -- that fits is written.
 use Prim.Native.Nat.{_≤_, _<_}
 use mathlib.Core.Path.{_≡_, ap}
 use native.Mathlib.Omega.{arith}
 use borrow.Author.Needs.{needs}
 use lib.ListN.{length}
-use Rattle.text.specs.Laying.{last}
+use Rattle.text.specs.Contracts.{last}
 use Rattle.sheet.specs.Sheet.{sheetText}
 use Rattle.sheet.proofs.Laws.{sheet-refused, sheet-wrote, no-room, too-short, long-enough, as-lent}
 use Rattle.sheet.proofs.Promises.{sheet-short}

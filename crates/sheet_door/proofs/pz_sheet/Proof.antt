@@ -2,7 +2,7 @@
 use mathlib.Core.Path.{sym, ap, _∙_}
 use native.Mathlib.Omega.{arith}
 use borrow.Author.Needs.{needs}
-use Rattle.lists.specs.Writing.{writeNumber, writeCount}
+use Rattle.buffer.specs.Writing.{writtenRefusal, writtenCount}
 use Rattle.sheet.proofs.Promises.{wrote-short}
 use Rattle.sheet_door.proofs.pz_sheet.Statement.{statement}
 use Rattle.sheet_door.proofs.pz_sheet.Tie as tie
@@ -10,8 +10,8 @@ use Rattle.sheet_door.proofs.pz_sheet.Tie as tie
 write-sheet-requires : tie.Need-write-sheet-requires
 write-sheet-requires c κs = search needs
 
-enum-known-number : tie.Need-enum-known-number
-enum-known-number c = search needs
+enum-known-refusal : tie.Need-enum-known-refusal
+enum-known-refusal c = search needs
 
 enum-known-n : tie.Need-enum-known-n
 enum-known-n c = search needs
@@ -28,7 +28,7 @@ same-length c = search needs
 returns : tie.Need-returns
 returns c =
     let h = c .before .before .before .before .before .write-sheet .ensures in
-    (ap writeNumber (sym (c .before .number .given .1)) ∙ h .1 .0, ap writeCount (sym (c .before .number .given .1)) ∙ h .1 .1 .0, h .1 .1 .1)
+    (ap writtenRefusal (sym (c .before .refusal .given .1)) ∙ h .1 .0, ap writtenCount (sym (c .before .refusal .given .1)) ∙ h .1 .1 .0, h .1 .1 .1)
 
 same-length-2 : tie.Need-same-length-2
 same-length-2 c = search needs
@@ -37,14 +37,14 @@ returns-2 : tie.Need-returns-2
 returns-2 c =
     let h = c .before .before .before .before .before .write-sheet .ensures in
     let e = sym (c .before .n .given .1) in
-    (ap writeNumber e ∙ h .1 .0, ap writeCount e ∙ h .1 .1 .0, h .1 .1 .1)
+    (ap writtenRefusal e ∙ h .1 .0, ap writtenCount e ∙ h .1 .1 .0, h .1 .1 .1)
 
 pub pz-sheet-spec : {M : Type 1} → statement M
 pz-sheet-spec =
     tie.close
     (tie.spec
     write-sheet-requires
-    enum-known-number
+    enum-known-refusal
     enum-known-n
     cast-written
     same-length

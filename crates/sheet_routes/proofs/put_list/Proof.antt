@@ -6,8 +6,8 @@ use native.Mathlib.Omega.{arith}
 use borrow.Author.Needs.{needs}
 use lib.ListN.{length}
 use lib.Seq.{sets, length-take-le}
-use Rattle.search.specs.Answers.{routesIn}
-use Rattle.text.specs.Laying.{last}
+use Rattle.route_search.specs.Contracts.{routesOver}
+use Rattle.text.specs.Contracts.{last}
 use Rattle.text.proofs.Joining.{whole, finish, said}
 use Rattle.sheet_routes.specs.RouteLines.{listText}
 use Rattle.sheet_routes.proofs.Going.{Going, going-start, going-on, going-ends, going-over}
@@ -16,7 +16,7 @@ use Rattle.sheet_routes.proofs.put_list.Tie as tie
 
 abbrev Inv-loop : tie.InvT-loop
 Inv-loop out₀ at ends ways links from to most buf₀ n₀ next₀ left₀ out buf n next left =
-    let text = listText most (routesIn ends ways links from to) in
+    let text = listText most (routesOver ends ways links from to) in
     (length out ≡ length out₀) × (length buf ≡ 15) × Going ends ways links from to n left buf out next (sets out₀ at text) (min (at + length text) last)
 
 abbrev μ-loop : tie.MeasureT-loop

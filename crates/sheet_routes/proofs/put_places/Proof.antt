@@ -5,7 +5,7 @@ use native.Mathlib.Omega.{arith}
 use borrow.Author.Needs.{needs}
 use lib.ListN.{length, drop}
 use lib.Seq.{sets}
-use Rattle.text.specs.Laying.{Laid, last}
+use Rattle.text.specs.Contracts.{Laid, last}
 use Rattle.sheet_routes.specs.RouteLines.{placesText}
 use Rattle.text.proofs.Joining.{whole, done, _▸_}
 use Rattle.sheet_routes.proofs.Routes.{places-none, place-on}
@@ -44,11 +44,11 @@ loop-less c = search needs
 loop-again : tie.Need-loop-again Inv-loop μ-loop
 loop-again c =
     let at = c .before .before .before .before .before .before .before .before .before .before .loop in
-    let number = c .before .before .put-number in
+    let refusal = c .before .before .put-number in
     let put = c .before .before .before .before .before .before .before .put-byte in (
-      omega (arith, number .kept .0, put .kept .0),
-      omega (arith, number .ensures .place),
-      place-on (c .before .before .before .before .before .before .before .before .before .before .before .before .before .args .r .now) (at .i) (omega arith) (at .inv .2) (put .ensures ▸ number .ensures),
+      omega (arith, refusal .kept .0, put .kept .0),
+      omega (arith, refusal .ensures .place),
+      place-on (c .before .before .before .before .before .before .before .before .before .before .before .before .before .args .r .now) (at .i) (omega arith) (at .inv .2) (put .ensures ▸ refusal .ensures),
     )
 
 same-length : tie.Need-same-length Inv-loop μ-loop

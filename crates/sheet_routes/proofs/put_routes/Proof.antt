@@ -11,6 +11,9 @@ put-last-requires c κs = search needs
 same-length : tie.Need-same-length
 same-length c = search needs
 
+cast-if1 : tie.Need-cast-if1
+cast-if1 c = search needs
+
 returns : tie.Need-returns
 returns c =
     let a = c .before .before .before .before .before .before .args in
@@ -42,6 +45,7 @@ pub put-routes-spec : {M : Type 1} → statement M
 put-routes-spec =
     tie.close
     (tie.spec
+    cast-if1
     put-last-requires
     same-length
     returns

@@ -6,8 +6,8 @@ use lib.ListN.{length}
 use Rattle.lists.specs.Places.{row}
 use Rattle.lists.proofs.Bools.{told-no, told-yes}
 use Rattle.lists.proofs.Places.{row-none, row-next}
-use Rattle.route.specs.Route.{noEntry}
-use Rattle.table_image.specs.Table.{entryCount, heldEntry}
+use Rattle.table.specs.Table.{noEntry}
+use Rattle.table_image.specs.Table.{entryCount, entryHeld}
 use Rattle.table_image.proofs.Laws.{readable, table-read, table-unread}
 use native.Mathlib.Omega.{arith}
 use borrow.Author.Needs.{needs}
@@ -16,7 +16,7 @@ use Rattle.table_image.proofs.table_of.Tie as tie
 
 abbrev Inv-loop : tie.InvT-loop
 Inv-loop b entries₀ count n i₀ entries i =
-    (i ≤ n) × (n ≤ 32) × (196 ≤ length b) × (entries ≡ row 32 noEntry (heldEntry b) i)
+    (i ≤ n) × (n ≤ 32) × (196 ≤ length b) × (entries ≡ row 32 noEntry (entryHeld b) i)
 
 abbrev μ-loop : tie.MeasureT-loop
 μ-loop b entries₀ count n i₀ entries i = n - i
@@ -44,7 +44,7 @@ loop-holds : tie.Need-loop-holds Inv-loop μ-loop
 loop-holds c =
     let b = c .before .before .before .before .before .args .b .now in
     let r = readable b (told-yes (c .before .before .readable-table .ensures) (c .before .if1 .left)) in
-    (omega arith, r .few, r .long, rw (c .before .before .before .no-entry .ensures) (sym (row-none 32 noEntry (heldEntry b))))
+    (omega arith, r .few, r .long, rw (c .before .before .before .no-entry .ensures) (sym (row-none 32 noEntry (entryHeld b))))
 
 mul-entry-in : tie.Need-mul-entry-in Inv-loop μ-loop
 mul-entry-in c = search needs
@@ -68,13 +68,13 @@ loop-less : tie.Need-loop-less Inv-loop μ-loop
 loop-less c = search needs
 
 loop-again : tie.Need-loop-again Inv-loop μ-loop
-unfolding heldEntry
+unfolding entryHeld
 loop-again c =
     let l = c .before .before .loop in (
       omega arith,
       l .inv .1,
       l .inv .2,
-      rw (c .entry-in .ensures, l .inv .3) (row-next 32 noEntry (heldEntry (c .before .before .before .before .before .before .before .before .args .b .now)) (l .i) (omega (arith, l .inv .1))),
+      rw (c .entry-in .ensures, l .inv .3) (row-next 32 noEntry (entryHeld (c .before .before .before .before .before .before .before .before .args .b .now)) (l .i) (omega (arith, l .inv .1))),
     )
 
 word-at-requires : tie.Need-word-at-requires Inv-loop μ-loop
@@ -88,7 +88,7 @@ returns-2 c =
     let l = c .before .before .before .loop in
     let b = c .before .before .before .before .before .before .before .before .before .args .b .now in
     let e : l .i ≡ entryCount b = omega (arith, l .inv .0) in
-    table-read b (told-yes (c .before .before .before .before .before .before .readable-table .ensures) (c .before .before .before .before .before .if1 .left)) (l .inv .3 ∙ ap (row 32 noEntry (heldEntry b)) e) (c .before .word-at .ensures)
+    table-read b (told-yes (c .before .before .before .before .before .before .readable-table .ensures) (c .before .before .before .before .before .if1 .left)) (l .inv .3 ∙ ap (row 32 noEntry (entryHeld b)) e) (c .before .word-at .ensures)
 
 pub table-of-spec : {M : Type 1} → statement M
 table-of-spec =

@@ -7,7 +7,7 @@ use borrow.Author.Needs.{needs}
 use borrow.Author.Tests.{eq-eqb, ne-eqb}
 use Rattle.lists.specs.Places.{anyBelow}
 use Rattle.lists.proofs.Places.{any-none, any-met, any-unmet}
-use Rattle.chart_keys.specs.Keys.{keyIs}
+use Rattle.chart_refuse.specs.Contracts.{keyIs}
 use Rattle.chart_refuse.proofs.known.has_key.Statement.{statement}
 use Rattle.chart_refuse.proofs.known.has_key.Tie as tie
 

@@ -7,8 +7,8 @@ use borrow.Author.Needs.{needs}
 use native.Mathlib.Omega.{arith}
 use Rattle.lists.specs.Places.{anyBelow}
 use Rattle.lists.proofs.Places.{any-none, any-more, any-end, any-found}
-use Rattle.chart_keys.specs.Keys.{keyIs}
-use Rattle.chart_keys.proofs.ByKeys.{known-by}
+use Rattle.chart_refuse.specs.Contracts.{keyIs}
+use Rattle.chart_refuse.proofs.ByKeys.{known-by}
 use Rattle.chart_refuse.proofs.known.is_known.Statement.{statement}
 use Rattle.chart_refuse.proofs.known.is_known.Tie as tie
 

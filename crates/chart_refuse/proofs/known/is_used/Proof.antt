@@ -1,7 +1,7 @@
 -- `chart_refuse::known::is_used` meets its contract: the first ends, or the second.
 use mathlib.Core.Path.{ap₂, _∙_}
 use mathlib.Core.Bool.{_||_}
-use Rattle.chart_keys.proofs.ByKeys.{used-by}
+use Rattle.chart_refuse.proofs.ByKeys.{used-by}
 use borrow.Author.Needs.{needs}
 use Rattle.chart_refuse.proofs.known.is_used.Statement.{statement}
 use Rattle.chart_refuse.proofs.known.is_used.Tie as tie
@@ -18,7 +18,7 @@ has-key-requires-2 c κs = search needs
 returns : tie.Need-returns
 returns c =
     let a = c .before .before .before .args in
-    ap₂ _||_ (c .before .has-key .ensures) (c .has-key2 .ensures) ∙ used-by (a .near .now) (a .far .now) (a .m) (a .e) (c .before .before .end-key .ensures)
+    ap₂ _||_ (c .before .has-key .ensures) (c .has-key2 .ensures) ∙ used-by (a .akeys .now) (a .bkeys .now) (a .m) (a .e) (c .before .before .end-key .ensures)
 
 pub is-used-spec : {M : Type 1} → statement M
 is-used-spec = tie.close (tie.spec end-key-requires has-key-requires has-key-requires-2 returns)

@@ -1,5 +1,5 @@
 -- `chart_write::storing::put_chart` meets its contract: nodes, links and question, each after the last.
-use Rattle.chart_numbers.proofs.Laws.{passed}
+use Rattle.chart_refuse.proofs.Laws.{passed}
 use Rattle.chart_write.proofs.Laws.{short, chart-put}
 use borrow.Author.Needs.{needs}
 use Rattle.chart_write.proofs.storing.put_chart.Statement.{statement}
@@ -11,8 +11,8 @@ put-nodes-requires c κs = short (c .before .before .before .before .args .c) (p
 put-links-requires : tie.Need-put-links-requires
 put-links-requires c κs = (passed (c .before .before .before .before .before .before .before .before .args .c) (c .before .before .before .before .before .before .before .before .pre) .few-links, c .before .before .before .put-nodes .ensures .1)
 
-question-bytes-requires : tie.Need-question-bytes-requires
-question-bytes-requires c κs = search needs
+question-field-requires : tie.Need-question-field-requires
+question-field-requires c κs = search needs
 
 cast-put-all : tie.Need-cast-put-all
 cast-put-all c = search needs
@@ -35,7 +35,7 @@ same-length c = search needs
 returns : tie.Need-returns
 returns c =
     let a = c .before .before .before .before .before .before .before .before .before .before .before .before .before .before .before .before .before .before .args in
-    chart-put (a .c) (a .out .now) _ _ _ _ (c .before .before .before .before .before .before .before .before .before .before .before .before .before .put-nodes .result) (c .before .before .before .before .before .before .before .before .before .before .before .before .before .put-nodes .ensures .0) (c .before .before .before .before .before .before .before .before .before .before .before .before .before .put-nodes .ensures .2) (c .before .before .before .before .before .before .before .before .before .put-links .ensures) (c .before .before .before .before .before .before .question-bytes .ensures) (c .before .before .put-all .ensures)
+    chart-put (a .c) (a .out .now) _ _ _ _ (c .before .before .before .before .before .before .before .before .before .before .before .before .before .put-nodes .result) (c .before .before .before .before .before .before .before .before .before .before .before .before .before .put-nodes .ensures .0) (c .before .before .before .before .before .before .before .before .before .before .before .before .before .put-nodes .ensures .2) (c .before .before .before .before .before .before .before .before .before .put-links .ensures) (c .before .before .before .before .before .before .question-field .ensures) (c .before .before .put-all .ensures)
 
 pub put-chart-spec : {M : Type 1} → statement M
 put-chart-spec =
@@ -43,7 +43,7 @@ put-chart-spec =
     (tie.spec
     put-nodes-requires
     put-links-requires
-    question-bytes-requires
+    question-field-requires
     cast-put-all
     mul-put-all
     add-put-all

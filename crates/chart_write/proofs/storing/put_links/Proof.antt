@@ -36,8 +36,8 @@ mul-l c = search needs
 element-copy-out-l : tie.Need-element-copy-out-l Inv-loop μ-loop
 element-copy-out-l c = search needs
 
-link-bytes-requires : tie.Need-link-bytes-requires Inv-loop μ-loop
-link-bytes-requires c κs = search needs
+link-field-requires : tie.Need-link-field-requires Inv-loop μ-loop
+link-field-requires c κs = search needs
 
 mul-put-all : tie.Need-mul-put-all Inv-loop μ-loop
 mul-put-all c = search needs
@@ -61,7 +61,7 @@ loop-again : tie.Need-loop-again Inv-loop μ-loop
 loop-again c =
     let s = (c .before .before .before .before .before .before .before .before .before .before) in
     let l = c .before .before .before .before .before .before .before .before .loop in
-    (omega arith, c .before .before .put-all .ensures ∙ link-stored (s .args .t3) _ (l .i) (s .args .at) _ _ _ (omega (arith, whole s)) (c .before .before .before .before .before .link-bytes .ensures) (l .inv .1))
+    (omega arith, c .before .before .put-all .ensures ∙ link-stored (s .args .t3) _ (l .i) (s .args .at) _ _ _ (omega (arith, whole s)) (c .before .before .before .before .before .link-field .ensures) (l .inv .1))
 
 same-length : tie.Need-same-length Inv-loop μ-loop
 same-length c = ap length (c .before .loop .inv .1) ∙ simp length-sets
@@ -82,7 +82,7 @@ put-links-spec =
     cast-loop
     mul-l
     element-copy-out-l
-    link-bytes-requires
+    link-field-requires
     mul-put-all
     add-put-all
     slice-aggregate-put-all

@@ -4,7 +4,7 @@ use mathlib.Core.Path.{_≡_, sym}
 use Rattle.lists.specs.Places.{row}
 use Rattle.lists.proofs.Places.{row-none, row-next}
 use Rattle.envelope.specs.Frame.{destinationAt}
-use Rattle.envelope.specs.Keys.{keyAt}
+use Rattle.envelope.specs.Contracts.{keyAt}
 use native.Mathlib.Omega.{arith}
 use borrow.Author.Needs.{needs}
 use Rattle.envelope_read.proofs.frame.keys_in.Statement.{statement}
@@ -20,14 +20,14 @@ abbrev μ-loop : tie.MeasureT-loop
 loop-holds : tie.Need-loop-holds Inv-loop μ-loop
 loop-holds c = (omega arith, sym (row-none 63 0 (keyAt (destinationAt (c .before .args .part .now)))))
 
-mul-unpack : tie.Need-mul-unpack Inv-loop μ-loop
-mul-unpack c = search needs
+mul-packed-in : tie.Need-mul-packed-in Inv-loop μ-loop
+mul-packed-in c = search needs
 
-unpack-requires : tie.Need-unpack-requires Inv-loop μ-loop
-unpack-requires c κs = search needs
+packed-in-requires : tie.Need-packed-in-requires Inv-loop μ-loop
+packed-in-requires c κs = search needs
 
-key-requires : tie.Need-key-requires Inv-loop μ-loop
-key-requires c κs = search needs
+address-key-requires : tie.Need-address-key-requires Inv-loop μ-loop
+address-key-requires c κs = search needs
 
 mul-keys : tie.Need-mul-keys Inv-loop μ-loop
 mul-keys c = search needs
@@ -46,7 +46,7 @@ unfolding keyAt destinationAt
 loop-again c =
     let l = c .before .before .before .loop in
     let d = keyAt (destinationAt (c .before .before .before .before .before .args .part .now)) in
-    (omega arith, rw (c .key .ensures, c .before .unpack .ensures, l .inv .1) (row-next 63 0 d (l .i) (omega arith)))
+    (omega arith, rw (c .address-key .ensures, c .before .packed-in .ensures, l .inv .1) (row-next 63 0 d (l .i) (omega arith)))
 
 returns : tie.Need-returns Inv-loop μ-loop
 returns c =
@@ -61,9 +61,9 @@ keys-in-spec =
     Inv-loop
     μ-loop
     loop-holds
-    mul-unpack
-    unpack-requires
-    key-requires
+    mul-packed-in
+    packed-in-requires
+    address-key-requires
     mul-keys
     array-write-keys
     add-i

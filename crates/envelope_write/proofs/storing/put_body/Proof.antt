@@ -15,8 +15,8 @@ mul-prot c = search needs
 add-prot : tie.Need-add-prot
 add-prot c = search needs
 
-head-bytes-requires : tie.Need-head-bytes-requires
-head-bytes-requires c κs = search needs
+frame-head-requires : tie.Need-frame-head-requires
+frame-head-requires c κs = search needs
 
 slice-aggregate-put-all : tie.Need-slice-aggregate-put-all
 slice-aggregate-put-all c = search needs
@@ -24,11 +24,11 @@ slice-aggregate-put-all c = search needs
 put-all-requires : tie.Need-put-all-requires
 put-all-requires c κs = search needs
 
-put-places-requires : tie.Need-put-places-requires
-put-places-requires c κs = search needs
+put-addresses-requires : tie.Need-put-addresses-requires
+put-addresses-requires c κs = search needs
 
-mid-bytes-requires : tie.Need-mid-bytes-requires
-mid-bytes-requires c κs = search needs
+frame-mid-requires : tie.Need-frame-mid-requires
+frame-mid-requires c κs = search needs
 
 slice-aggregate-put-all-2 : tie.Need-slice-aggregate-put-all-2
 slice-aggregate-put-all-2 c = search needs
@@ -51,12 +51,12 @@ returns c =
     rw (
       c .before .before .put-all3 .ensures,
       c .before .before .before .before .before .before .put-all2 .ensures,
-      c .before .before .before .before .before .before .before .before .before .mid-bytes .ensures,
-      c .before .before .before .before .before .before .before .before .before .before .before .before .put-places .ensures,
+      c .before .before .before .before .before .before .before .before .before .frame-mid .ensures,
+      c .before .before .before .before .before .before .before .before .before .before .before .before .put-addresses .ensures,
       c .before .before .before .before .before .before .before .before .before .before .before .before .before .before .before .before .put-all .ensures,
-      c .before .before .before .before .before .before .before .before .before .before .before .before .before .before .before .before .before .before .before .head-bytes .ensures,
+      c .before .before .before .before .before .before .before .before .before .before .before .before .before .before .before .before .before .before .before .frame-head .ensures,
     )
-    (body-puts (a .e) (elementAt zeroAddress (a .places)) (a .contents .now) (a .out .now))
+    (body-puts (a .e) (elementAt zeroAddress (a .addresses)) (a .contents .now) (a .out .now))
 
 pub put-body-spec : {M : Type 1} → statement M
 put-body-spec =
@@ -65,11 +65,11 @@ put-body-spec =
     cast-count
     mul-prot
     add-prot
-    head-bytes-requires
+    frame-head-requires
     slice-aggregate-put-all
     put-all-requires
-    put-places-requires
-    mid-bytes-requires
+    put-addresses-requires
+    frame-mid-requires
     slice-aggregate-put-all-2
     put-all-requires-2
     add-put-all

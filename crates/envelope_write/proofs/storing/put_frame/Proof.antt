@@ -49,9 +49,9 @@ returns c =
       rw (
         c .check .ensures,
         c .before .before .before .before .before .put-body .ensures,
-        body-stored (a .e) (elementAt zeroAddress (a .places)) (a .contents .now) (a .out .now) (omega (arith, c .before .before .before .before .before .before .before .before .before .pre .roomy)),
+        body-stored (a .e) (elementAt zeroAddress (a .addresses)) (a .contents .now) (a .out .now) (omega (arith, c .before .before .before .before .before .before .before .before .before .pre .roomy)),
       )
-          (frame-puts (a .e) (elementAt zeroAddress (a .places)) (a .contents .now) (a .out .now)),
+          (frame-puts (a .e) (elementAt zeroAddress (a .addresses)) (a .contents .now) (a .out .now)),
     )
 
 pub put-frame-spec : {M : Type 1} → statement M

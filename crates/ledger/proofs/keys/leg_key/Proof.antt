@@ -10,17 +10,17 @@ is-open-requires c κs = search needs
 returns : tie.Need-returns
 returns c = rw (told-no (c .before .is-open .ensures) (c .if1 .taken))
 
-key-requires : tie.Need-key-requires
-key-requires c κs = search needs
+address-key-requires : tie.Need-address-key-requires
+address-key-requires c κs = search needs
 
-cast-from : tie.Need-cast-from
-cast-from c = search needs
+cast-source : tie.Need-cast-source
+cast-source c = search needs
 
-key-requires-2 : tie.Need-key-requires-2
-key-requires-2 c κs = search needs
+address-key-requires-2 : tie.Need-address-key-requires-2
+address-key-requires-2 c κs = search needs
 
-cast-to : tie.Need-cast-to
-cast-to c = search needs
+cast-destination : tie.Need-cast-destination
+cast-destination c = search needs
 
 cast-n : tie.Need-cast-n
 cast-n c = search needs
@@ -28,11 +28,11 @@ cast-n c = search needs
 mul-result : tie.Need-mul-result
 mul-result c = search needs
 
-mul-result-2 : tie.Need-mul-result-2
-mul-result-2 c = search needs
-
 add-result : tie.Need-add-result
 add-result c = search needs
+
+mul-result-2 : tie.Need-mul-result-2
+mul-result-2 c = search needs
 
 add-result-2 : tie.Need-add-result-2
 add-result-2 c = search needs
@@ -41,7 +41,7 @@ add-result-3 : tie.Need-add-result-3
 add-result-3 c = search needs
 
 returns-2 : tie.Need-returns-2
-returns-2 c = rw (told-yes (c .before .before .before .before .is-open .ensures) (c .before .before .before .if1 .left), c .before .key2 .ensures, c .before .before .key .ensures)
+returns-2 c = rw (told-yes (c .before .before .before .before .is-open .ensures) (c .before .before .before .if1 .left), c .before .address-key2 .ensures, c .before .before .address-key .ensures)
 
 pub leg-key-spec : {M : Type 1} → statement M
 leg-key-spec =
@@ -49,14 +49,14 @@ leg-key-spec =
     (tie.spec
     is-open-requires
     returns
-    key-requires
-    cast-from
-    key-requires-2
-    cast-to
+    address-key-requires
+    cast-source
+    address-key-requires-2
+    cast-destination
     cast-n
     mul-result
-    mul-result-2
     add-result
+    mul-result-2
     add-result-2
     add-result-3
     returns-2)

@@ -4,7 +4,7 @@ use mathlib.Core.Path.{_≡_, sym, _∙_}
 use mathlib.Core.Bool.{false}
 use Rattle.lists.specs.Places.{anyBelow, repeatAt, repeats, elementAt}
 use Rattle.lists.proofs.Places.{any-none, any-more, any-end, any-found}
-use Rattle.ledger.specs.Keys.{sameKey}
+use Rattle.ledger.specs.Contracts.{sameKey}
 use native.Mathlib.Omega.{arith}
 use borrow.Author.Needs.{needs}
 use Rattle.ledger.proofs.keys.repeated.Statement.{statement}

@@ -1,7 +1,0 @@
--- The keys of destinations, one number for each, by which the code sees whether two are equal.
-use Prim.Native.Nat.{ℕ}
-use Rattle.address.specs.declared.Address.{Address}
-use Rattle.address.specs.Address.{keyOf}
-
-unfoldable pub keyAt : (ℕ → Address) → ℕ → ℕ
-keyAt d i = keyOf (d i)

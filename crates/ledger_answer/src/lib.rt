@@ -1,0 +1,89 @@
+// An answer settles the open leg that it names.
+use address::Address;
+use address::Seq;
+use ledger::Ledger;
+use ledger::Leg;
+use ledger::Outcome;
+use ledger::Standing;
+use ledger::is_open_leg;
+use ledger::obeys;
+ghost use mathlib.Core.Path.{_≡_};
+ghost use Prim.Native.Nat.{_≤_};
+ghost use Rattle.ledger_answer.specs.Answer.{standingFor, settled, answeredPlace, answerOf};
+ghost use Rattle.ledger.specs.Rules.{mostLegs};
+
+pub enum Reply {
+    Ack,
+    Nak(u8, u8),
+}
+
+// The standing that a reply gives.
+fn standing_for(r: Reply) -> Standing
+    ensures { λ s. ⌜ s ≡ standingFor r ⌝ }
+{
+    match r {
+        Reply::Ack => Standing::Acknowledged,
+        Reply::Nak(set, code) => Standing::Refused(set, code),
+    }
+}
+
+// The leg, settled by the reply.
+fn settled(g: Leg, r: Reply) -> Leg
+    ensures { λ h. ⌜ h ≡ settled r g ⌝ }
+{
+    let s = standing_for(r);
+    let from = g.source;
+    let to = g.destination;
+    let n = g.seq;
+    Leg {
+        source: from,
+        destination: to,
+        seq: n,
+        ticks: 0,
+        standing: s,
+    }
+}
+
+// The place of the open leg that an answer names, or the number of legs.
+fn answered_place(l: Ledger, by: Address, to: Address, seq: Seq) -> usize
+    requires { ⌜ l .count ≤ mostLegs ⌝ }
+    ensures { λ r. ⌜ r ≡ answeredPlace l by to seq ⌝ }
+{
+    let n = l.count as usize;
+    let mut i: usize = 0;
+    while i < n {
+        let g = l.legs[i];
+        if is_open_leg(g, to, by, seq) {
+            return i;
+        }
+        i += 1;
+    }
+    n
+}
+
+// `by` answers a message of `to` with this number: 60 the rules, 64 no such open leg.
+pub fn answer(l: Ledger, by: Address, to: Address, seq: Seq, reply: Reply) -> Outcome
+    ensures { λ r. ⌜ r ≡ answerOf l by to seq reply ⌝ }
+{
+    if !obeys(l) {
+        return Outcome {
+            refusal: 60,
+            ledger: l,
+        };
+    }
+    let k = answered_place(l, by, to, seq);
+    if l.count as usize <= k {
+        return Outcome {
+            refusal: 64,
+            ledger: l,
+        };
+    }
+    let g = l.legs[k];
+    let h = settled(g, reply);
+    let mut m = l;
+    m.legs[k] = h;
+    Outcome {
+        refusal: 0,
+        ledger: m,
+    }
+}

@@ -1,0 +1,24 @@
+-- What C gets of pz_first and pz_next (document 01, "Routes and their order"): the reader's numbers 21 to 31 first, then what the trace of the chart answers.
+use Prim.Native.Nat.{ℕ}
+use mathlib.Core.List.{List}
+use Rattle.lists.specs.Refusals.{unlessRefused}
+use Rattle.chart_read.specs.Reading.{readChartOf}
+use Rattle.route_search.specs.declared.Traced.{Traced}
+use Rattle.route_search.specs.declared.Traced.the-variants.{Route, Refused}
+use Rattle.route_search.specs.Answers.{Told}
+use Rattle.route_trace.specs.Trace.{traceFirst, traceNext}
+
+-- the one number that comes back: the route's length (0 to 15) or the refusal
+abbrev pub oneNumber : Traced → ℕ
+oneNumber (Route n) = n
+oneNumber (Refused k) = k
+
+-- a chart that the reader refuses leaves the buffer as it was
+unfoldable pub ifRead : List ℕ → List ℕ → Told → Told
+ifRead bytes buf t = unlessRefused (readChartOf bytes .refusal) t (record { answer = Refused (readChartOf bytes .refusal); bytes = buf })
+
+unfoldable pub pzFirst : List ℕ → List ℕ → Told
+pzFirst bytes buf = ifRead bytes buf (traceFirst (readChartOf bytes .chart) buf)
+
+unfoldable pub pzNext : List ℕ → List ℕ → ℕ → Told
+pzNext bytes buf n = ifRead bytes buf (traceNext (readChartOf bytes .chart) buf n)

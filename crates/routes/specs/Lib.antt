@@ -1,4 +1,0 @@
-pub mod Route
-pub mod All
-pub mod Steps
-pub mod Promises

@@ -1,3 +1,0 @@
-pub mod Net
-pub mod Answers
-pub mod Steps
