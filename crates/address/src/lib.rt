@@ -1,5 +1,5 @@
-// Addresses (3.2): three kinds of number that are never mixed, the station and the address made of them. Its bytes are written and read by `packing` and
-// `wide`.
+// Addresses (3.2): three kinds of number that are never mixed, the station and the address made of them. Its bytes are written and read by
+// `address_bytes`.
 ghost use mathlib.Core.Path.{_≡_};
 ghost use Rattle.address.specs.Address.{stationOf, stationInRange, inRange, sameStation, sameAddress};
 

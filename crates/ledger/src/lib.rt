@@ -1,4 +1,4 @@
-// The ledger of legs: what a leg is, what a ledger holds, and whether it obeys its rules. The calls stand in `accept`, `answer`, `tick` and `clear`.
+// The ledger of legs: what a leg is, what a ledger holds, and whether it obeys its rules. Each call on it has a crate of its own.
 use address::Address;
 use address::Node;
 use address::Port;
