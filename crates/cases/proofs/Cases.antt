@@ -21,7 +21,7 @@ use Rattle.chart_refuse.specs.Refusal.{nodeRefusalAt, linkRefusalAt, chartValue
 use Rattle.route.specs.Route.{also, only}
 use Rattle.route.specs.All.{upFrom, linksFrom, over, tries, routes, unmet, allFrom, allRoutes, firstOf, sameLinks, nextOf}
 use Rattle.route_search.specs.Answers.{findingRefusal, findingRoute, told, firstRefusal, nextRefusal}
-use Rattle.chart_net.specs.Net.{stationPlace, farEnd, chartNet, start, routesOf}
+use Rattle.chart_net.specs.Net.{stationPlace, farEnd, chartNet, start, routesOf, routesBetween}
 use Rattle.route_trace.specs.Trace.{firstRefusalOf, nextRefusalOf, traceFirst, traceNext}
 use Rattle.cases.specs.Questions.{Back, listFrom, returnedBy, afterAll, answerTo}
 use Rattle.cases.specs.Values.{T, two, one}
@@ -46,12 +46,12 @@ each (k ∷ ks) e c m = go (each ks (tail-eq-of-cons-eq e) c) (List·Memᴰ·cas
 
 -- they agree on the table
 computed : back table ≡ meant table
-unfolding readChartOf walk unlessRefused nothing noChart fieldRefusal bodyRefusal refusing nodeBodyRefusal linkBodyRefusal questionBodyRefusal nodeLate nodeIn linkIn bytesFrom withBody withNode withLink withQuestion nodeRefusalBy linkRefusalBy questionRefusalBy nodeRefusal linkRefusal questionRefusal nodeInRange linkInRange endInRange stationInRange inRange sameStation sameAddress hasNode hasEnd standsAt endsAt nodeAt linkAt strayByte anyBelow firstBelow firstFrom elementAt firsts row also only upFrom linksFrom over tries routes unmet allFrom allRoutes sameLinks stationPlace farEnd chartNet start routesOf chartRefusal chartValuesRefusal firstRefusalBelow nodeRefusalAt linkRefusalAt firstOf nextOf answerRefusal findingRoute findingRefusal told firstRefusal nextRefusal firstRefusalOf nextRefusalOf traceFirst traceNext entryAt isOwn covers qualifies qualifiesAt hasRoute outPort outChoice targetInRange entryInRange strayEntry tableInRange callInRange chooseOf sameAt repeatAt repeats howMany legAt isOpen isOpenLeg alike ticksObey legObeys brokenAt obeys standingFor settled withLeg answeredAt answeredPlace answerOf timesOut tickedLeg tickedLedger tickRefusal tickOf refusalOf after S bytesS T two one listFrom returnedBy afterAll answerTo table
+unfolding readChartOf walk unlessRefused nothing noChart fieldRefusal bodyRefusal refusing nodeBodyRefusal linkBodyRefusal questionBodyRefusal nodeLate nodeIn linkIn bytesFrom withBody withNode withLink withQuestion nodeRefusalBy linkRefusalBy questionRefusalBy nodeRefusal linkRefusal questionRefusal nodeInRange linkInRange endInRange stationInRange inRange sameStation sameAddress hasNode hasEnd standsAt endsAt nodeAt linkAt strayByte anyBelow firstBelow firstFrom elementAt firsts row also only upFrom linksFrom over tries routes unmet allFrom allRoutes sameLinks stationPlace farEnd chartNet start routesOf routesBetween chartRefusal chartValuesRefusal firstRefusalBelow nodeRefusalAt linkRefusalAt firstOf nextOf answerRefusal findingRoute findingRefusal told firstRefusal nextRefusal firstRefusalOf nextRefusalOf traceFirst traceNext entryAt isOwn covers qualifies qualifiesAt hasRoute outPort outChoice targetInRange entryInRange strayEntry tableInRange callInRange chooseOf sameAt repeatAt repeats howMany legAt isOpen isOpenLeg alike ticksObey legObeys brokenAt obeys standingFor settled withLeg answeredAt answeredPlace answerOf timesOut tickedLeg tickedLedger tickRefusal tickOf refusalOf after S bytesS T two one listFrom returnedBy afterAll answerTo table
 computed = refl
 
 pub all-hold : AllHold
 all-hold = each table computed
 
 pub slipped : Slipped
-unfolding readChartOf walk unlessRefused nothing noChart fieldRefusal bodyRefusal refusing nodeBodyRefusal linkBodyRefusal questionBodyRefusal nodeLate nodeIn linkIn bytesFrom withBody withNode withLink withQuestion nodeRefusalBy linkRefusalBy questionRefusalBy nodeRefusal linkRefusal questionRefusal nodeInRange linkInRange endInRange stationInRange inRange sameStation sameAddress hasNode hasEnd standsAt endsAt nodeAt linkAt strayByte anyBelow firstBelow firstFrom elementAt firsts row also only upFrom linksFrom over tries routes unmet allFrom allRoutes sameLinks stationPlace farEnd chartNet start routesOf bytesS
+unfolding readChartOf walk unlessRefused nothing noChart fieldRefusal bodyRefusal refusing nodeBodyRefusal linkBodyRefusal questionBodyRefusal nodeLate nodeIn linkIn bytesFrom withBody withNode withLink withQuestion nodeRefusalBy linkRefusalBy questionRefusalBy nodeRefusal linkRefusal questionRefusal nodeInRange linkInRange endInRange stationInRange inRange sameStation sameAddress hasNode hasEnd standsAt endsAt nodeAt linkAt strayByte anyBelow firstBelow firstFrom elementAt firsts row also only upFrom linksFrom over tries routes unmet allFrom allRoutes sameLinks stationPlace farEnd chartNet start routesOf routesBetween bytesS
 slipped = record { right = refl; wrong = refl }

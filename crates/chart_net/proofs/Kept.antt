@@ -25,7 +25,7 @@ use Rattle.route_search.specs.declared.Far.the-variants.{Node, None}
 use Rattle.route_search.specs.Contracts.{nodePlace, otherEnd, farNode, nodeOf, net, routesOver}
 use Rattle.route_search.proofs.Leading.{far-in, sound}
 use Rattle.chart_write.specs.Promises.{Accepted}
-use Rattle.chart_net.specs.Net.{stationPlace, across, placed, farEnd, chartNet, start, routesOf}
+use Rattle.chart_net.specs.Net.{stationPlace, across, placed, farEnd, chartNet, start, routesOf, routesBetween}
 use Rattle.chart_net.specs.Contracts.{stationPlaceFor, endPlaces, endPlacesAt, passageOf, passageAt, endsFor, passagesFor, arrayRoutes}
 use Rattle.chart_net.proofs.Places.{crossed, place-written, place-few, at-place}
 
@@ -170,7 +170,7 @@ module _ (c : Chart) (ok : Accepted c) where
 
   -- what the trace keeps has the chart's routes
   pub routes-kept : arrayRoutes c ≡ routesOf c
-  unfolding arrayRoutes routesOver routesOf start chartNet
+  unfolding arrayRoutes routesOver routesOf routesBetween start chartNet
   routes-kept =
       ap (allRoutes kept) (place-few ns (c .from) (ok .few-nodes))
       ∙ sym (routes-agree (chartNet c) kept alike chart-sound (sound (endsFor ns ls) (passagesFor ls) (ls .count) (stationPlaceFor ns (c .to))) (start c) start-below)

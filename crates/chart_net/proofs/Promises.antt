@@ -15,7 +15,7 @@ use Rattle.chart.specs.Values.{nodeAt, linkAt, standsAt}
 use Rattle.route.specs.All.{allRoutes}
 use Rattle.route.proofs.Promises.{off-links, twin-links}
 use Rattle.chart_net.proofs.Places.{crossed}
-use Rattle.chart_net.specs.Net.{stationPlace, across, placed, farEnd, chartNet, start, routesOf}
+use Rattle.chart_net.specs.Net.{stationPlace, across, placed, farEnd, chartNet, start, routesOf, routesBetween}
 use Rattle.chart_net.specs.Promises.{SameRoutes, AcceptedEnds, ByStation, OffLink, TwinLink}
 use Rattle.chart_net.proofs.Kept as kept
 
@@ -46,7 +46,7 @@ module _ (ns ms : Nodes) (count : ns .count ≡ ms .count) (stations : (i : ℕ)
       (ap (λ (s : Station). placed ns (across (linkAt ls i) s)) (stations a) ∙ placed-same (across (linkAt ls i) (nodeAt ms a .station)))))
 
 pub by-station : ByStation
-unfolding routesOf chartNet start
+unfolding routesOf routesBetween chartNet start
 by-station c d e =
     let place : (s t : Station) → s ≡ t → stationPlace (c .nodes) s ≡ stationPlace (d .nodes) t =
     λ s t q. place-same (c .nodes) (d .nodes) (e .count) (e .stations) s ∙ ap (stationPlace (d .nodes)) q

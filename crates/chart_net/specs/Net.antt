@@ -37,15 +37,25 @@ placed ns (some s) = some (stationPlace ns s)
 unfoldable pub farEnd : Nodes → Links → ℕ → ℕ → Option ℕ
 farEnd ns ls i a = cond (ltb i (ls .count)) (placed ns (across (linkAt ls i) (nodeAt ns a .station))) none
 
--- the net of the chart
-unfoldable pub chartNet : Chart → Net
-chartNet c =
+-- the net of the chart, for one who wants to come to a station
+abbrev pub netTo : Chart → Station → Net
+netTo c to =
     record {
       nodes = c .nodes .count;
       links = c .links .count;
       far = farEnd (c .nodes) (c .links);
-      goal = stationPlace (c .nodes) (c .to);
+      goal = stationPlace (c .nodes) to;
     }
+
+-- all routes of the chart between two stations, in order
+unfoldable pub routesBetween : Chart → Station → Station → List (List ℕ)
+routesBetween c from to = allRoutes (netTo c to) (stationPlace (c .nodes) from)
+
+-- ---- what the question asks
+
+-- the net, for the station that is asked for
+unfoldable pub chartNet : Chart → Net
+chartNet c = netTo c (c .to)
 
 -- the place that the question begins at
 unfoldable pub start : Chart → ℕ
@@ -53,4 +63,4 @@ start c = stationPlace (c .nodes) (c .from)
 
 -- all routes that the chart's question asks for, in order
 unfoldable pub routesOf : Chart → List (List ℕ)
-routesOf c = allRoutes (chartNet c) (start c)
+routesOf c = routesBetween c (c .from) (c .to)

@@ -19,6 +19,10 @@ mostLegs = 128
 abbrev pub noLeg : Leg
 noLeg = record { source = zeroAddress; destination = zeroAddress; seq = record { 0 = 0 }; ticks = 0; standing = Open }
 
+-- the leg with other ticks and another standing: what any call changes of a leg that stands
+abbrev pub withStanding : Leg → ℕ → Standing → Leg
+withStanding g ticks s = record { source = g .source; destination = g .destination; seq = g .seq; ticks = ticks; standing = s }
+
 -- the leg at a place
 unfoldable pub legAt : Ledger → ℕ → Leg
 legAt l i = elementAt noLeg (l .legs) i

@@ -4,7 +4,7 @@ use address::Node;
 use address::Port;
 use address::Seq;
 ghost use mathlib.Core.Path.{_≡_};
-ghost use Rattle.ledger.specs.Rules.{noLeg};
+ghost use Rattle.ledger.specs.Rules.{noLeg, withStanding};
 
 mod keys;
 mod rules;
@@ -57,5 +57,21 @@ pub fn no_leg() -> Leg
         seq: Seq(0),
         ticks: 0,
         standing: Standing::Open,
+    }
+}
+
+// The leg with other ticks and another standing.
+pub fn with_standing(g: Leg, ticks: u16, standing: Standing) -> Leg
+    ensures { λ r. ⌜ r ≡ withStanding g ticks standing ⌝ }
+{
+    let source = g.source;
+    let destination = g.destination;
+    let seq = g.seq;
+    Leg {
+        source,
+        destination,
+        seq,
+        ticks,
+        standing,
     }
 }

@@ -10,7 +10,7 @@ use Rattle.ledger.specs.declared.Standing.{Standing}
 use Rattle.ledger.specs.declared.Standing.the-variants.{Acknowledged, Refused}
 use Rattle.ledger.specs.declared.Leg.{Leg}
 use Rattle.ledger.specs.declared.Ledger.{Ledger}
-use Rattle.ledger.specs.Rules.{legAt, isOpenLeg, obeys}
+use Rattle.ledger.specs.Rules.{withStanding, legAt, isOpenLeg, obeys}
 use Rattle.ledger_answer.specs.declared.Reply.{Reply}
 use Rattle.ledger_answer.specs.declared.Reply.the-variants.{Ack, Nak}
 use Rattle.ledger.specs.declared.Outcome.{Outcome}
@@ -22,7 +22,7 @@ standingFor (Nak reason code) = Refused reason code
 
 -- the leg, settled by the reply: its ticks become 0
 unfoldable pub settled : Reply → Leg → Leg
-settled r g = record { source = g .source; destination = g .destination; seq = g .seq; ticks = 0; standing = standingFor r }
+settled r g = withStanding g 0 (standingFor r)
 
 -- the ledger with another leg at a place
 unfoldable pub withLeg : Ledger → ℕ → Leg → Ledger

@@ -7,6 +7,7 @@ use ledger::Outcome;
 use ledger::Standing;
 use ledger::is_open_leg;
 use ledger::obeys;
+use ledger::with_standing;
 ghost use mathlib.Core.Path.{_≡_};
 ghost use Prim.Native.Nat.{_≤_};
 ghost use Rattle.ledger_answer.specs.Answer.{standingFor, settled, answeredPlace, answerOf};
@@ -31,17 +32,7 @@ fn standing_for(r: Reply) -> Standing
 fn settled(g: Leg, r: Reply) -> Leg
     ensures { λ h. ⌜ h ≡ settled r g ⌝ }
 {
-    let s = standing_for(r);
-    let from = g.source;
-    let to = g.destination;
-    let n = g.seq;
-    Leg {
-        source: from,
-        destination: to,
-        seq: n,
-        ticks: 0,
-        standing: s,
-    }
+    with_standing(g, 0, standing_for(r))
 }
 
 // The place of the open leg that an answer names, or the number of legs.

@@ -24,7 +24,7 @@ use Rattle.table.specs.Table.{chooseOf}
 use Rattle.ledger.specs.declared.Standing.the-variants.{Open, Undeliverable, TimedOut}
 use Rattle.ledger.specs.declared.Leg.{Leg}
 use Rattle.ledger.specs.declared.Ledger.{Ledger}
-use Rattle.ledger.specs.Rules.{legAt, isOpen, alike, ticksObey, legObeys, obeys}
+use Rattle.ledger.specs.Rules.{withStanding, legAt, isOpen, alike, ticksObey, legObeys, obeys}
 use Rattle.ledger.proofs.Laws.{right, Obedient}
 use Rattle.ledger_answer.specs.declared.Reply.{Reply}
 use Rattle.ledger_answer.specs.declared.Reply.the-variants.{Ack, Nak}
@@ -99,7 +99,7 @@ module _ (l : Ledger) (by to : Address) (seq : Seq) (reply : Reply) (whole : Who
 -- by the standing and the ticks left
 module _ {A : Type 0} (field : Leg → A) (g : Leg) where
   ticked-field : field (record { source = g .source; destination = g .destination; seq = g .seq; ticks = 0; standing = TimedOut }) ≡ field g
-      → field (record { source = g .source; destination = g .destination; seq = g .seq; ticks = g .ticks - 1; standing = g .standing }) ≡ field g → field (tickedLeg g) ≡ field g
+      → field (withStanding g (g .ticks - 1) (g .standing)) ≡ field g → field (tickedLeg g) ≡ field g
   unfolding tickedLeg
   ticked-field a b = go (isOpen (g .standing)) (leb (g .ticks) 1)
     where

@@ -10,7 +10,7 @@ use Rattle.lists.specs.Refusals.{unlessRefused}
 use Rattle.ledger.specs.declared.Standing.the-variants.{TimedOut}
 use Rattle.ledger.specs.declared.Leg.{Leg}
 use Rattle.ledger.specs.declared.Ledger.{Ledger}
-use Rattle.ledger.specs.Rules.{isOpen, obeys}
+use Rattle.ledger.specs.Rules.{withStanding, isOpen, obeys}
 use Rattle.ledger_tick.specs.declared.Ticked.{Ticked}
 use Rattle.ledger_tick.specs.Tick.{timesOut, tickedLeg, tickedLedger, tickRefusal, tickOf}
 
@@ -27,11 +27,11 @@ module _ (g : Leg) where
   unfolding tickedLeg
   ticked-settled a = rw a
 
-  pub ticked-out : isOpen (g .standing) ≡ true → g .ticks ≤ 1 → _≡_ {A = Leg} (record { source = g .source; destination = g .destination; seq = g .seq; ticks = 0; standing = TimedOut }) (tickedLeg g)
+  pub ticked-out : isOpen (g .standing) ≡ true → g .ticks ≤ 1 → withStanding g 0 TimedOut ≡ tickedLeg g
   unfolding tickedLeg
   ticked-out a b = rw (a, le-leb _ _ b)
 
-  pub ticked-less : isOpen (g .standing) ≡ true → 1 < g .ticks → _≡_ {A = Leg} (record { source = g .source; destination = g .destination; seq = g .seq; ticks = g .ticks - 1; standing = g .standing }) (tickedLeg g)
+  pub ticked-less : isOpen (g .standing) ≡ true → 1 < g .ticks → withStanding g (g .ticks - 1) (g .standing) ≡ tickedLeg g
   unfolding tickedLeg
   ticked-less a b = rw (a, lt-leb _ _ b)
 

@@ -9,7 +9,7 @@ use Rattle.lists.specs.Refusals.{refuse, unlessRefused}
 use Rattle.ledger.specs.declared.Standing.the-variants.{TimedOut}
 use Rattle.ledger.specs.declared.Leg.{Leg}
 use Rattle.ledger.specs.declared.Ledger.{Ledger}
-use Rattle.ledger.specs.Rules.{isOpen, obeys}
+use Rattle.ledger.specs.Rules.{withStanding, isOpen, obeys}
 use Rattle.ledger_tick.specs.declared.Ticked.{Ticked}
 
 -- an open leg whose count comes to 0 in this tick
@@ -20,9 +20,7 @@ timesOut g = isOpen (g .standing) && leb (g .ticks) 1
 unfoldable pub tickedLeg : Leg → Leg
 tickedLeg g =
     cond (isOpen (g .standing))
-    (cond (leb (g .ticks) 1)
-    (record { source = g .source; destination = g .destination; seq = g .seq; ticks = 0; standing = TimedOut })
-    (record { source = g .source; destination = g .destination; seq = g .seq; ticks = g .ticks - 1; standing = g .standing }))
+    (cond (leb (g .ticks) 1) (withStanding g 0 TimedOut) (withStanding g (g .ticks - 1) (g .standing)))
     g
 
 -- each leg of the ledger ticked, and the places past them as they were

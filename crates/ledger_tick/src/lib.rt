@@ -4,6 +4,7 @@ use ledger::Leg;
 use ledger::Standing;
 use ledger::is_open;
 use ledger::obeys;
+use ledger::with_standing;
 ghost use mathlib.Core.Path.{_≡_};
 ghost use Prim.Native.Nat.{_≤_};
 ghost use Rattle.ledger_tick.specs.Tick.{timesOut, tickedLeg, tickOf};
@@ -42,26 +43,10 @@ fn ticked_leg(g: Leg) -> Leg
     if !is_open(s) {
         return g;
     }
-    let from = g.source;
-    let to = g.destination;
-    let n = g.seq;
-    let t = g.ticks;
-    if t <= 1 {
-        return Leg {
-            source: from,
-            destination: to,
-            seq: n,
-            ticks: 0,
-            standing: Standing::TimedOut,
-        };
+    if g.ticks <= 1 {
+        return with_standing(g, 0, Standing::TimedOut);
     }
-    Leg {
-        source: from,
-        destination: to,
-        seq: n,
-        ticks: t - 1,
-        standing: s,
-    }
+    with_standing(g, g.ticks - 1, s)
 }
 
 // Takes one from the leg's count; says whether the leg timed out in this tick.

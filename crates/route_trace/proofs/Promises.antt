@@ -24,7 +24,7 @@ use Rattle.route.proofs.Laws.{all-are, all-here, all-sound}
 use Rattle.route_search.specs.declared.Traced.the-variants.{Refused}
 use Rattle.route_search.specs.Answers.{Told, told, findingRefusal, findingRoute}
 use Rattle.route_search.proofs.Telling.{first-room, next-room, next-long}
-use Rattle.chart_net.specs.Net.{stationPlace, chartNet, start, routesOf}
+use Rattle.chart_net.specs.Net.{stationPlace, chartNet, start, routesOf, routesBetween}
 use Rattle.chart_net.specs.Promises.{IsRouteOf}
 use Rattle.chart_net.proofs.Promises.{accepted-ends}
 use Rattle.route_trace.specs.Trace.{firstRefusalOf, nextRefusalOf, traceFirst, traceNext}
@@ -71,7 +71,7 @@ module _ (c : Chart) (ok : chartRefusal c ≡ 0) where
       subst (λ (x : List ℕ). GoesThrough c (given (route r) buf) (x ∷ l)) t (another refl next)
 
   not-known : (b : List ℕ) (n : ℕ) → 15 ≤ length b → (IsRouteOf c (take n b) → ⊥) → traceNext c b n ≡ record { answer = Refused 41; bytes = b }
-  unfolding routesOf allRoutes told unlessRefused findingRefusal
+  unfolding routesOf routesBetween allRoutes told unlessRefused findingRefusal chartNet start
   not-known b n h bad = go (ltb 15 n) refl
     where
       go : (t : Bool) → ltb 15 n ≡ t → traceNext c b n ≡ record { answer = Refused 41; bytes = b }
@@ -85,7 +85,7 @@ module _ (c : Chart) (ok : chartRefusal c ≡ 0) where
   same-place e = ap (stationPlace (c .nodes)) e
 
   traced : (buf : List ℕ) → 15 ≤ length buf → RoutesTraced c buf
-  unfolding routesOf allRoutes
+  unfolding routesOf routesBetween allRoutes chartNet start
   traced buf h =
       let G = chartNet c in
       let a = start c in

@@ -29,7 +29,7 @@ use Rattle.route.specs.Route.{only}
 use Rattle.route.specs.All.{allRoutes}
 use Rattle.route.proofs.Laws.{all-sound}
 use Rattle.route.proofs.Promises.{short-routes}
-use Rattle.chart_net.specs.Net.{chartNet, start, routesOf}
+use Rattle.chart_net.specs.Net.{chartNet, start, routesOf, routesBetween}
 use Rattle.chart_net.proofs.Promises.{accepted-ends}
 use Rattle.sheet_lines.specs.Lines.{countsLine, refusedLine}
 use Rattle.sheet_lines.proofs.NumberLengths.{counts-long, refused-long}
@@ -75,7 +75,7 @@ module _ (c : Chart) (ok : chartRefusal c ≡ 0) where
       omega arith
 
   one-long : (r : List ℕ) → List·Memᴰ r (routesOf c) → length (routeLine r) ≤ 45
-  unfolding routesOf allRoutes chartNet
+  unfolding routesOf routesBetween allRoutes chartNet start
   one-long r m =
       let w = accepted-ends c (accepted c ok) in
       let q = all-sound (chartNet c) (start c) (only (start c)) r m in

@@ -13,7 +13,7 @@ use Rattle.chart_read.specs.Fields.{bytesFrom, nodeIn, linkIn}
 use Rattle.chart_read.specs.Reading.{nothing, withNode, withLink, withQuestion, withBody, nodeLate, refusing, nodeBodyRefusal, linkBodyRefusal, questionBodyRefusal, bodyRefusal, fieldRefusal, walk, readChartOf}
 use Rattle.route.specs.Route.{also, only}
 use Rattle.route.specs.All.{upFrom, linksFrom, over, tries, routes, unmet, allFrom, allRoutes}
-use Rattle.chart_net.specs.Net.{stationPlace, farEnd, chartNet, start, routesOf}
+use Rattle.chart_net.specs.Net.{stationPlace, farEnd, chartNet, start, routesOf, routesBetween}
 use Rattle.text.specs.Marks.{ascii}
 use Rattle.text.specs.Decimal.{digits}
 use Rattle.sheet_lines.specs.Lines.{countsLine, refusedLine}
@@ -55,5 +55,5 @@ pub record Cases : Type 0 where
   pub long : sheetText (replicate 4097 1) ≡ ascii "too long\n"
 
 pub cases : Cases
-unfolding sheetText readText chartText lineAt joined stationText endText labelText nodeLine linkLine countsLine questionLine refusedLine placesText routeLine listText digits readChartOf walk unlessRefused nothing noChart fieldRefusal bodyRefusal refusing nodeBodyRefusal linkBodyRefusal questionBodyRefusal nodeLate nodeIn linkIn bytesFrom withBody withNode withLink withQuestion nodeRefusalBy linkRefusalBy questionRefusalBy nodeRefusal linkRefusal questionRefusal nodeInRange linkInRange endInRange stationInRange inRange sameStation sameAddress hasNode hasEnd standsAt endsAt nodeAt linkAt strayByte anyBelow firstBelow firstFrom elementAt firsts row also only upFrom linksFrom over tries routes unmet allFrom allRoutes stationPlace farEnd chartNet start routesOf bytesS textS
+unfolding sheetText readText chartText lineAt joined stationText endText labelText nodeLine linkLine countsLine questionLine refusedLine placesText routeLine listText digits readChartOf walk unlessRefused nothing noChart fieldRefusal bodyRefusal refusing nodeBodyRefusal linkBodyRefusal questionBodyRefusal nodeLate nodeIn linkIn bytesFrom withBody withNode withLink withQuestion nodeRefusalBy linkRefusalBy questionRefusalBy nodeRefusal linkRefusal questionRefusal nodeInRange linkInRange endInRange stationInRange inRange sameStation sameAddress hasNode hasEnd standsAt endsAt nodeAt linkAt strayByte anyBelow firstBelow firstFrom elementAt firsts row also only upFrom linksFrom over tries routes unmet allFrom allRoutes stationPlace farEnd chartNet start routesOf routesBetween bytesS textS
 cases = record { whole = refl; one = refl; none = refl; bad = refl; long = refl }
