@@ -12,11 +12,7 @@ use Rattle.address.specs.declared.Address.{Address}
 use Rattle.address.specs.Address.{stationInRange, inRange, sameAddress}
 use Rattle.address.proofs.Laws.{brigade-le, node-le, port-le, same-eq, same-refl}
 use Rattle.address_bytes.specs.Packed.{packedBytes, packedIn, addressKey}
-
--- each undoes the other: of an address in range, and of any bytes
-pub record Undo : Type 0 where
-  pub read : (a : Address) → inRange a ≡ true → (rest : List ℕ) → packedIn (packedBytes a ++ rest) 0 ≡ a
-  pub written : (l : List ℕ) → Bytes l → (at : ℕ) → packedBytes (packedIn l at) ≡ getD l at 0 ∷ getD l (at + 1) 0 ∷ getD l (at + 2) 0 ∷ []
+use Rattle.address_bytes.specs.Promises.{PackedUndo}
 
 node-back : (n p : ℕ) → n ≤ 1023 → p ≤ 63 → n / 4 % 256 * 4 + (n % 4 * 64 + p % 64) / 64 ≡ n
 node-back n p hn hp = omega arith
@@ -30,7 +26,7 @@ high-back b1 b2 h1 h2 = omega arith
 low-back : (b1 b2 : ℕ) → b2 < 256 → (b1 * 4 + b2 / 64) % 4 * 64 + b2 % 64 % 64 ≡ b2
 low-back b1 b2 h2 = omega arith
 
-pub undo : Undo
+pub undo : PackedUndo
 undo = record {
   read = λ a h rest i. record { brigade = a .brigade; node = record { 0 = node-back (a .node .0) (a .port .0) (node-le a h) (port-le a h) i }; port = record { 0 = port-back (a .node .0) (a .port .0) (port-le a h) i } };
   written = λ l b at. simp (high-back (getD l (at + 1) 0) (getD l (at + 2) 0) (b (at + 1)) (b (at + 2)), low-back (getD l (at + 1) 0) (getD l (at + 2) 0) (b (at + 2)));

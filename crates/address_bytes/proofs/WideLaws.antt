@@ -1,14 +1,12 @@
 -- Words and addresses, read back from their bytes.
-use Prim.Native.Nat.{ℕ, _+_, _*_, _/_, _%_}
+use Prim.Native.Nat.{ℕ, _+_}
 use mathlib.Core.Path.{_≡_, refl}
 use mathlib.Core.List.{List}
 use native.Mathlib.Omega.{arith}
 use lib.ListN.{length, getD}
+use Rattle.buffer.proofs.Words.{word-back}
 use Rattle.address.specs.declared.Address.{Address}
 use Rattle.address_bytes.specs.Wide.{addressBytes, addressIn}
-
-pub word-back : (x : ℕ) → x / 256 * 256 + x % 256 ≡ x
-word-back x = omega arith
 
 pub length-address : (a : Address) → length (addressBytes a) ≡ 4
 length-address a = refl

@@ -1,2 +1,4 @@
 pub mod Packed
 pub mod Wide
+pub mod Cases
+pub mod Promises

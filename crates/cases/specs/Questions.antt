@@ -1,9 +1,18 @@
 -- What a case asks, and what comes back: the public definitions behind one question.
 use Prim.Native.Nat.{ℕ, zero, suc, _-_}
+use mathlib.Core.Bool.{cond}
 use mathlib.Core.List.{List, [], _∷_, _++_}
+use lib.Dec.{ltb}
 use lib.ListN.{length, replicate, take}
 use Rattle.address.specs.declared.Port.{Port}
+use Rattle.lists.specs.Places.{elementAt}
 use Rattle.address.specs.declared.Address.{Address}
+use Rattle.address.specs.Address.{zeroAddress}
+use Rattle.envelope.specs.declared.Fixed.{Fixed}
+use Rattle.envelope_read.specs.declared.Read.{Read}
+use Rattle.envelope_read.specs.Read.{readFrameOf}
+use Rattle.envelope_read.specs.Parts.{contentsOf, destinationsOf}
+use Rattle.envelope_write.specs.Write.{frameBytes}
 use Rattle.table.specs.declared.Table.{Table}
 use Rattle.table.specs.declared.Choice.{Choice}
 use Rattle.table.specs.Table.{chooseOf}
@@ -14,10 +23,12 @@ use Rattle.ledger_laws.specs.Calls.{Call, accepting, answering, ticking, cleari
 use Rattle.chart.specs.declared.Chart.{Chart}
 use Rattle.chart_read.specs.declared.ChartRead.{ChartRead}
 use Rattle.chart_read.specs.Reading.{readChartOf}
+use Rattle.chart_door.specs.Calls.{pzChartReadImage}
 use Rattle.route_search.specs.declared.Traced.{Traced}
 use Rattle.route_search.specs.declared.Traced.the-variants.{Route, Refused}
 use Rattle.route_search.specs.Answers.{Told}
 use Rattle.route_trace.specs.Trace.{traceFirst, traceNext}
+use Rattle.route_door.specs.Routes.{pzFirstNumber, pzFirstBuffer, pzNextNumber, pzNextBuffer}
 
 -- ---- questions and answers
 
@@ -33,6 +44,14 @@ pub data Asked : Type 0 where
   choosing : Table → Address → Port → Asked
   -- calls on a ledger, each on what the one before left
   calling : Ledger → List Call → Asked
+  -- what a frame says
+  opening : List ℕ → Asked
+  -- the frame of these fields, destinations and contents
+  sending : Fixed → List Address → List ℕ → Asked
+  -- the image that C gets of a chart's bytes, in an image of zeros
+  imaging : List ℕ → Asked
+  -- the numbers that C gets of a chart's bytes: pz_first, then pz_next with the last number until a refusal
+  tracing : List ℕ → Asked
 
 -- the number and the count that a call on a ledger returns
 pub record Returned : Type 0 where
@@ -50,6 +69,14 @@ pub data Back : Type 0 where
   chosen : Choice → Back
   -- what each call returned, and the ledger after them all
   called : List Returned → Ledger → Back
+  -- the fixed fields or the refusal, the destinations that count, the contents
+  opened : Read → List Address → List ℕ → Back
+  -- a frame's bytes
+  sent : List ℕ → Back
+  -- an image's bytes
+  imaged : List ℕ → Back
+  -- numbers
+  numbered : List ℕ → Back
 
 -- ---- what comes back
 
@@ -100,6 +127,15 @@ unfoldable pub afterAll : Ledger → List Call → Ledger
 afterAll l [] = l
 afterAll l (c ∷ cs) = afterAll (after l c) cs
 
+-- the numbers from the one that came back on, in the buffer as it was left; `most` of them at most
+unfoldable pub numbersFrom : ℕ → List ℕ → ℕ → List ℕ → List ℕ
+numbersFrom zero bytes n buf = []
+numbersFrom (suc most) bytes n buf = n ∷ cond (ltb 15 n) [] (numbersFrom most bytes (pzNextNumber bytes buf n) (pzNextBuffer bytes buf n))
+
+-- the destinations of a frame that count
+abbrev pub destinationsIn : List ℕ → List Address
+destinationsIn f = take (destinationsOf f .count) (destinationsOf f .addresses)
+
 -- a list as an answer
 abbrev pub listedOf : Listing → Back
 listedOf l = listed (l .routes) (l .refusal)
@@ -115,3 +151,7 @@ answerTo (listing bytes) = listedOf (listFrom 20 (chartFrom bytes) (traceFirst (
 answerTo (following bytes r) = toldOf (traceNext (chartFrom bytes) (lent r) (length r))
 answerTo (choosing t d arrival) = chosen (chooseOf t d arrival)
 answerTo (calling l cs) = called (returnedBy l cs) (afterAll l cs)
+answerTo (opening f) = opened (readFrameOf f) (destinationsIn f) (contentsOf f)
+answerTo (sending e d l) = sent (frameBytes e (elementAt zeroAddress d) l)
+answerTo (imaging bytes) = imaged (pzChartReadImage bytes (replicate 888 0))
+answerTo (tracing bytes) = numbered (numbersFrom 20 bytes (pzFirstNumber bytes (lent [])) (pzFirstBuffer bytes (lent [])))

@@ -1,16 +1,23 @@
--- Document 01's cases at the edges, P1 to P14: one table, and the one statement of it. A case more is a row more. proofs/Cases.antt has the theorem.
+-- Document 01's cases at the edges, P1 to P14, and a few of our own: one table, and the one statement of it. A case more is a row more. proofs/Cases.antt has
+-- the theorem.
 use Prim.Native.Nat.{ℕ}
 use mathlib.Core.Path.{_≡_}
 use mathlib.Core.List.{List, [], _∷_, List·Memᴰ}
-use Rattle.table.specs.declared.Choice.the-variants.{Local, Out, Refused}
-use Rattle.ledger.specs.declared.Standing.the-variants.{Open, Acknowledged, TimedOut}
-use Rattle.ledger_answer.specs.declared.Reply.the-variants.{Ack}
-use Rattle.ledger_laws.specs.Calls.{answering, ticking}
+use Rattle.envelope.specs.Cases.{fireFrame, fireFields}
+use Rattle.envelope_read.specs.declared.Read.the-variants.{Envelope}
+use Rattle.table.specs.declared.Choice.the-variants.{Local, Out, Refused as Unrouted}
+use Rattle.table.specs.Cases.{T}
+use Rattle.ledger.specs.declared.Standing.the-variants.{Open, Acknowledged, Refused, TimedOut}
+use Rattle.ledger.specs.Cases.{leg, ledger, two, one}
+use Rattle.ledger_accept.specs.Cases.{toHill, fireLegs}
+use Rattle.ledger_answer.specs.declared.Reply.the-variants.{Ack, Nak}
+use Rattle.ledger_laws.specs.Calls.{accepting, answering, ticking}
 use Rattle.chart.specs.Sample.{S, bytesS}
 use Rattle.chart_read.specs.Reading.{refusedAt}
+use Rattle.chart_image.specs.Cases.{imageS}
 use Rattle.route_search.specs.declared.Traced.the-variants.{Refused as NoRoute}
-use Rattle.cases.specs.Questions.{Asked, reading, listing, following, choosing, calling, Returned, Back, read, listed, told, chosen, called, lent, answerTo}
-use Rattle.cases.specs.Values.{port, seq, at, off, to, T, two, one}
+use Rattle.cases.specs.Questions.{Asked, reading, listing, following, choosing, calling, opening, sending, imaging, tracing, Returned, Back, read, listed, told, chosen, called, opened, sent, imaged, numbered, lent, answerTo}
+use Rattle.cases.specs.Values.{port, seq, at, off, to}
 
 -- what is asked, and what must come back
 pub record Case : Type 0 where
@@ -55,7 +62,7 @@ table =
     -- P7 to P10: T
     ∷ (choosing T (at 9 20 5) (port 0) ⟶ chosen (Out (port 3)))
     ∷ (choosing T (at 9 20 5) (port 3) ⟶ chosen (Out (port 4)))
-    ∷ (choosing T (at 12 7 1) (port 4) ⟶ chosen (Refused 52))
+    ∷ (choosing T (at 12 7 1) (port 4) ⟶ chosen (Unrouted 52))
     ∷ (choosing T (at 9 1 6) (port 0) ⟶ chosen (Local (port 6)))
     ∷ (choosing T (at 9 1 6) (port 3) ⟶ chosen (Local (port 6)))
     -- P11: an acknowledgement settles the second leg only
@@ -66,6 +73,17 @@ table =
     ∷ (reading [] ⟶ read (refusedAt 31 0))
     -- P14: node 1,024
     ∷ (reading (1 ∷ 0 ∷ 3 ∷ 9 ∷ 4 ∷ 0 ∷ []) ⟶ read (refusedAt 24 0))
+    -- a frame by its bytes, and the same frame written
+    ∷ (opening fireFrame ⟶ opened (Envelope fireFields) (at 9 20 5 ∷ at 9 21 5 ∷ []) (70 ∷ 105 ∷ 114 ∷ 101 ∷ []))
+    ∷ (sending fireFields (at 9 20 5 ∷ at 9 21 5 ∷ []) (70 ∷ 105 ∷ 114 ∷ 101 ∷ []) ⟶ sent fireFrame)
+    -- that frame accepted beside an open leg of another source with the same number: a leg with a route, and one without
+    ∷ (calling (ledger (leg (at 9 2 2) (at 9 20 5) 300 1 Open ∷ [])) (accepting fireFrame (port 0) toHill 5 ∷ []) ⟶ called (returns 0 2 ∷ []) (ledger (leg (at 9 2 2) (at 9 20 5) 300 1 Open ∷ fireLegs)))
+    -- a NAK with its set and its code
+    ∷ (calling (two 3 Open) (answering (at 9 20 1) (at 9 2 5) (seq 7) (Nak 2 9) ∷ []) ⟶ called (returns 0 0 ∷ []) (two 0 (Refused 2 9)))
+    -- the image of S
+    ∷ (imaging bytesS ⟶ imaged imageS)
+    -- the routes of S through C: their lengths, and 43
+    ∷ (tracing bytesS ⟶ numbered (2 ∷ 3 ∷ 2 ∷ 3 ∷ 43 ∷ []))
     ∷ []
 
 -- every case of the table holds

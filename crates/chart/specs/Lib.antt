@@ -1,3 +1,4 @@
 pub mod Values
 pub mod Refusals
 pub mod Sample
+pub mod Cases

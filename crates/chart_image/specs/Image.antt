@@ -11,28 +11,28 @@ use Rattle.chart.specs.declared.ChartNode.{ChartNode}
 use Rattle.chart.specs.declared.Link.{Link}
 use Rattle.chart.specs.declared.Chart.{Chart}
 use Rattle.chart.specs.Values.{mostNodes, mostLinks, longestLabel, noNode, noLink, nodeAt, linkAt}
-use Rattle.chart_read.specs.Fields.{bytesFrom}
+use Rattle.chart_read.specs.Fields.{linkLength, bytesFrom}
 use Rattle.chart_write.specs.Writing.{linkBody}
 
-abbrev pub chartImageSize : ℕ
-chartImageSize = 888
-
--- where the nodes and the links begin, and the bytes of each
+-- where the nodes and the links begin (8, 456), the bytes of each (28, 9), and of the whole (888)
 abbrev pub nodesStart : ℕ
 nodesStart = 8
-
-abbrev pub linksStart : ℕ
-linksStart = 456
 
 abbrev pub nodeSize : ℕ
 nodeSize = 28
 
+abbrev pub linksStart : ℕ
+linksStart = nodesStart + nodeSize * mostNodes
+
 abbrev pub linkSize : ℕ
-linkSize = 9
+linkSize = linkLength
+
+abbrev pub chartImageSize : ℕ
+chartImageSize = linksStart + linkSize * mostLinks
 
 -- ---- a chart put into an image
 
--- a node's 28 bytes; a link's 9 are those of its field's body
+-- a node's bytes; a link's are those of its field's body
 unfoldable pub nodeImage : ChartNode → List ℕ
 nodeImage n = stationBytes (n .station) ++ ((n .length ∷ []) ++ firsts (elementAt 0 (n .label)) longestLabel)
 

@@ -5,7 +5,6 @@ use crate::NODE_SIZE;
 use crate::NODES_START;
 use chart::Chart;
 use chart::ChartNode;
-use chart::Link;
 use chart::Links;
 use chart::MOST_LINKS;
 use chart::MOST_NODES;
@@ -16,7 +15,7 @@ ghost use lib.Seq.{sets};
 ghost use Rattle.lists.specs.Places.{joined, upTo};
 ghost use Rattle.chart.specs.Values.{mostLinks, mostNodes, noNode, noLink, nodeAt, linkAt};
 ghost use Rattle.chart_write.specs.Writing.{linkBody};
-ghost use Rattle.chart_image.specs.Image.{chartImageSize, linksStart, nodeImage, chartImage};
+ghost use Rattle.chart_image.specs.Image.{chartImageSize, nodesStart, linksStart, nodeImage, chartImage};
 
 // A node's 28 bytes, stored from a place on.
 fn put_node(image: &mut [u8], at: usize, n: ChartNode)
@@ -34,7 +33,7 @@ fn put_node(image: &mut [u8], at: usize, n: ChartNode)
 // The bytes of the first n nodes.
 fn put_first_nodes(image: &mut [u8], nodes: Nodes, n: usize)
     requires { ⌜ n ≤ mostNodes ⌝ }
-    ensures { λ _. ⌜ now (image .exit) ≡ sets (now (image .entry)) 8 (joined nodeImage (nodeAt nodes) n) ⌝ }
+    ensures { λ _. ⌜ now (image .exit) ≡ sets (now (image .entry)) nodesStart (joined nodeImage (nodeAt nodes) n) ⌝ }
 {
     let mut i: usize = 0;
     while i < n {
@@ -42,16 +41,6 @@ fn put_first_nodes(image: &mut [u8], nodes: Nodes, n: usize)
         put_node(image, NODES_START + NODE_SIZE * i, node);
         i += 1;
     }
-}
-
-// A link's 9 bytes.
-fn link_image(l: Link) -> [u8; 9]
-    ensures { λ r. ⌜ r ≡ linkBody l ⌝ }
-{
-    let a = address_bytes::address_bytes(l.a);
-    let b = address_bytes::address_bytes(l.b);
-    let on: u8 = if l.on { 1 } else { 0 };
-    [a[0], a[1], a[2], a[3], b[0], b[1], b[2], b[3], on]
 }
 
 // The bytes of the first n links.
@@ -62,7 +51,7 @@ fn put_first_links(image: &mut [u8], links: Links, n: usize)
     let mut i: usize = 0;
     while i < n {
         let l = links.items[i];
-        let b = link_image(l);
+        let b = chart_write::link_body(l);
         buffer::put_all(image, LINKS_START + LINK_SIZE * i, &b);
         i += 1;
     }
@@ -70,7 +59,7 @@ fn put_first_links(image: &mut [u8], links: Links, n: usize)
 
 // The bytes of all 16 places of nodes: zeros past the count.
 fn put_nodes(image: &mut [u8], nodes: Nodes)
-    ensures { λ _. ⌜ now (image .exit) ≡ sets (now (image .entry)) 8 (joined nodeImage (upTo (nodes .count) noNode (nodeAt nodes)) mostNodes) ⌝ }
+    ensures { λ _. ⌜ now (image .exit) ≡ sets (now (image .entry)) nodesStart (joined nodeImage (upTo (nodes .count) noNode (nodeAt nodes)) mostNodes) ⌝ }
 {
     if MOST_NODES < nodes.count {
         put_first_nodes(image, nodes, 16);

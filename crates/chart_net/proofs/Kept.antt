@@ -24,7 +24,7 @@ use Rattle.route.proofs.SameNet.{Alike, routes-agree}
 use Rattle.route_search.specs.declared.Far.the-variants.{Node, None}
 use Rattle.route_search.specs.Contracts.{nodePlace, otherEnd, farNode, nodeOf, net, routesOver}
 use Rattle.route_search.proofs.Leading.{far-in, sound}
-use Rattle.chart_write.specs.Promises.{Accepted}
+use Rattle.chart_refuse.specs.Promises.{Accepted}
 use Rattle.chart_net.specs.Net.{stationPlace, across, placed, farEnd, chartNet, start, routesOf, routesBetween}
 use Rattle.chart_net.specs.Contracts.{stationPlaceFor, endPlaces, endPlacesAt, passageOf, passageAt, endsFor, passagesFor, arrayRoutes}
 use Rattle.chart_net.proofs.Places.{crossed, place-written, place-few, at-place}

@@ -1,3 +1,4 @@
 pub mod Net
 pub mod Contracts
 pub mod Promises
+pub mod Cases

@@ -6,7 +6,7 @@ use mathlib.Core.List.{List, _∷_, _++_, List·Memᴰ}
 use Rattle.address.specs.Address.{stationOf}
 use Rattle.chart.specs.declared.Chart.{Chart}
 use Rattle.chart.specs.Values.{nodeAt, linkAt}
-use Rattle.chart_write.specs.Promises.{Accepted}
+use Rattle.chart_refuse.specs.Promises.{Accepted}
 use Rattle.route.specs.Route.{Sound, RouteFrom}
 use Rattle.route.specs.Promises.{TwoRoutes}
 use Rattle.chart_net.specs.Net.{chartNet, start, routesOf}

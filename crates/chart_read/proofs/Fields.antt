@@ -11,6 +11,7 @@ use lib.Seq.{getD-append-add, getD-append-seam, drop-append-add, take-append-sea
 use lib.Dec.{ltb}
 use borrow.Author.Tests.{ltb-false, ltb-true}
 use Rattle.buffer.specs.Bytes.{Bytes, wordAt, wordBytes}
+use Rattle.buffer.proofs.Words.{high-back, low-back}
 use Rattle.chart_read.specs.Fields.{tagged, tagAt, bodyAt, pastField}
 use Rattle.chart_read.specs.Reading.{SoFar, withBody, Refusing, bodyRefusal, fieldRefusal}
 use Rattle.chart_read.proofs.Laws.{field-whole}
@@ -59,12 +60,6 @@ module _ (pre : List ℕ) (tag : ℕ) (body post : List ℕ) where
   past-there = omega (arith, word-there, length-append pre (tagged tag body))
 
 -- ---- in any bytes
-
-pub high-back : (h l : ℕ) → l < 256 → (h * 256 + l) / 256 ≡ h
-high-back h l s = omega arith
-
-pub low-back : (h l : ℕ) → l < 256 → (h * 256 + l) % 256 ≡ l
-low-back h l s = omega arith
 
 -- a list from a place on, its next three bytes written out
 pub three-on : (b : List ℕ) (at : ℕ) → at + 3 ≤ length b → drop at b ≡ getD b at 0 ∷ getD b (at + 1) 0 ∷ getD b (at + 1 + 1) 0 ∷ drop (at + 3) b

@@ -11,26 +11,25 @@ use Rattle.lists.specs.Refusals.{refuse}
 use Rattle.address_bytes.specs.Wide.{stationIn, addressIn}
 use Rattle.chart_refuse.specs.Contracts.{endKey, EndKeyed, KeyedNodes, KeyedLinks}
 use Rattle.chart_refuse.proofs.ByKeys.{node-keyed, link-keyed, question-keyed}
+use Rattle.chart_read.specs.declared.Counts.{Counts}
 use Rattle.chart_read.specs.Fields.{tagAt, bodyAt, cutShort, nodeIn, linkIn}
 use Rattle.chart_read.specs.Reading.{SoFar, Refusing, nodeLate, refusing, nodeBodyRefusal, linkBodyRefusal, questionBodyRefusal, bodyRefusal, fieldRefusal}
-use Rattle.chart_read.specs.Contracts.{refusingBy}
+use Rattle.chart_read.specs.Contracts.{asKeys, refusingBy}
+use Rattle.buffer.proofs.Words.{word-fits}
 use Rattle.chart_read.proofs.Fields.{bytes-body}
 
--- a two-byte number is below 65,536
-word-fits : (b : List ℕ) → Bytes b → (at : ℕ) → wordAt b at ≤ 65535
-word-fits b h at =
-    let p = h at in
-    let q = h (at + 1) in
-    omega arith
-
-end-fits : (b : List ℕ) → Bytes b → (at : ℕ) → EndKeyed (addressIn b at) (endKey (addressIn b at))
+pub end-fits : (b : List ℕ) → Bytes b → (at : ℕ) → EndKeyed (addressIn b at) (endKey (addressIn b at))
 end-fits b h at =
     let p = h (at + 3) in
     record { key = refl; node = word-fits b h (at + 1); port = omega arith }
 
+-- the counts of what is held
+abbrev pub countsOf : SoFar → Counts
+countsOf s = record { nodes = s .chart .nodes .count; links = s .chart .links .count; asked = s .asked }
+
 module _ (s : SoFar) (keys akeys bkeys : List ℕ) (hn : KeyedNodes (s .chart .nodes) keys) (hl : KeyedLinks (s .chart .links) akeys bkeys) where
   abbrev by : Refusing
-  by = refusingBy (s .asked) keys (s .chart .nodes .count) akeys bkeys (s .chart .links .count)
+  by = refusingBy (asKeys keys akeys bkeys (countsOf s))
 
   node-same : (b : List ℕ) → Bytes b → nodeBodyRefusal (by .node) b ≡ nodeBodyRefusal (refusing s .node) b
   unfolding refusingBy refusing nodeBodyRefusal nodeLate nodeIn

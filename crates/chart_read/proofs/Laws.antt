@@ -5,17 +5,19 @@ use mathlib.Core.List.{List}
 use mathlib.Core.Bool.{Bool, true, false, not, cond}
 use native.Mathlib.Omega.{arith}
 use lib.ListN.{length, getD, take, drop}
+use lib.Seq.{getD-take}
 use lib.Dec.{ltb, eqb}
 use borrow.Author.Tests.{lt-ltb, le-ltb, ltb-false, eqb-true, not-false}
 use Rattle.buffer.specs.Bytes.{wordAt}
 use Rattle.lists.proofs.Refusals.{pass}
 use Rattle.lists.proofs.Chains.{stops, passes}
 use Rattle.address.specs.declared.Station.{Station}
-use Rattle.address_bytes.specs.Wide.{stationIn}
+use Rattle.address_bytes.specs.Wide.{stationIn, addressIn}
 use Rattle.chart.specs.declared.ChartNode.{ChartNode}
 use Rattle.chart.specs.declared.Link.{Link}
 use Rattle.chart_read.specs.Fields.{tagAt, bodyAt, pastField, cutShort, nodeIn, linkIn}
 use Rattle.chart_read.specs.Reading.{SoFar, withNode, withLink, withQuestion, withBody, Refusing, nodeBodyRefusal, linkBodyRefusal, questionBodyRefusal, bodyRefusal, fieldRefusal}
+use Rattle.chart_read.specs.Contracts.{fieldEnd}
 
 -- ---- by the tag
 
@@ -24,9 +26,6 @@ tag-first k x e = rw e
 
 pub tag-later : {A : Type 0} {b : Bool} (k : A) {r x : A} → b ≡ false → r ≡ x → r ≡ cond b k x
 tag-later k e h = rw e h
-
-pub tag-is : (r : Refusing) (b : List ℕ) {k tag t : ℕ} → tag ≡ t → k ≡ bodyRefusal r t b → k ≡ bodyRefusal r tag b
-tag-is r b e h = h ∙ ap (λ (x : ℕ). bodyRefusal r x b) (sym e)
 
 -- what is held after a body of each tag
 module _ (s : SoFar) (tag : ℕ) (b : List ℕ) where
@@ -93,6 +92,25 @@ body-made bytes at next e =
     let k : next - (at + 3) ≡ wordAt bytes (at + 1) = omega arith in
     ap (λ (j : ℕ). take j (drop (at + 3) bytes)) k
 
+-- a station and an address that lie in the first n bytes of a body
+module _ (n : ℕ) (b : List ℕ) (at : ℕ) where
+  pub station-within : at + 3 ≤ n → stationIn (take n b) at ≡ stationIn b at
+  station-within h = rw (getD-take n b at 0 (omega arith), getD-take n b (at + 1) 0 (omega arith), getD-take n b (at + 1 + 1) 0 (omega arith)) refl
+
+  pub address-within : at + 4 ≤ n → addressIn (take n b) at ≡ addressIn b at
+  address-within h =
+      rw (getD-take n b at 0 (omega arith), getD-take n b (at + 1) 0 (omega arith), getD-take n b (at + 1 + 1) 0 (omega arith), getD-take n b (at + 3) 0 (omega arith)) refl
+
+-- where the walk goes on, by whether the field is cut short
+module _ (bytes : List ℕ) (at : ℕ) where
+  pub end-cut : length bytes < pastField bytes at → length bytes ≡ fieldEnd bytes at
+  unfolding fieldEnd
+  end-cut h = rw (lt-ltb (length bytes) (pastField bytes at) h)
+
+  pub end-whole : (next : ℕ) → next ≡ pastField bytes at → next ≤ length bytes → next ≡ fieldEnd bytes at
+  unfolding fieldEnd
+  end-whole next e h = e ∙ tag-later _ (le-ltb (length bytes) (pastField bytes at) (omega arith)) refl
+
 module _ (r : Refusing) (bytes : List ℕ) (at : ℕ) where
   pub field-cut : length bytes < pastField bytes at → 21 ≡ fieldRefusal r bytes at
   unfolding fieldRefusal
@@ -101,10 +119,6 @@ module _ (r : Refusing) (bytes : List ℕ) (at : ℕ) where
   pub field-whole : (k : ℕ) → pastField bytes at ≤ length bytes → k ≡ bodyRefusal r (tagAt bytes at) (bodyAt bytes at) → k ≡ fieldRefusal r bytes at
   unfolding fieldRefusal
   field-whole k h e = passes 21 (le-ltb (length bytes) (pastField bytes at) h) e
-
-  -- the same with the body at hand, and with the place past the field
-  pub field-made : (b : List ℕ) (k next : ℕ) → next ≡ pastField bytes at → next ≤ length bytes → b ≡ bodyAt bytes at → k ≡ bodyRefusal r (tagAt bytes at) b → k ≡ fieldRefusal r bytes at
-  field-made b k next e h f g = field-whole k (omega arith) (g ∙ ap (bodyRefusal r (tagAt bytes at)) f)
 
   -- what its number of 0 says: it is whole, and its body has that number
   module _ (e : fieldRefusal r bytes at ≡ 0) where

@@ -1,16 +1,69 @@
--- The numbers of values by the keys of the nodes and links before them, as the code finds them.
-use Prim.Native.Nat.{ℕ}
+-- Taking one field of a walk, as the code does: by the keys of the nodes and links before it.
+use Prim.Native.Nat.{ℕ, _+_}
+use mathlib.Core.Path.{_≡_}
 use mathlib.Core.List.{List}
-use mathlib.Core.Bool.{Bool, _||_}
-use lib.Dec.{ltb}
-use Rattle.chart_refuse.specs.Contracts.{nodeRefusalByKeys, linkRefusalByKeys, questionRefusalByKeys}
-use Rattle.chart_read.specs.Reading.{Refusing}
+use mathlib.Core.Bool.{true, cond, _||_}
+use lib.ListN.{length, set}
+use lib.Dec.{ltb, eqb}
+use Rattle.lists.specs.Refusals.{unlessRefused}
+use Rattle.chart.specs.declared.ChartNode.{ChartNode}
+use Rattle.chart.specs.declared.Link.{Link}
+use Rattle.chart_refuse.specs.Contracts.{stationKey, endKey, nodeRefusalByKeys, linkRefusalByKeys, questionRefusalByKeys}
+use Rattle.chart_read.specs.declared.Counts.{Counts}
+use Rattle.chart_read.specs.Fields.{nodeTag, linkTag, tagAt, bodyAt, pastField, cutShort, nodeIn, linkIn}
+use Rattle.chart_read.specs.Reading.{Refusing, bodyRefusal, fieldRefusal}
 
--- after the nodes with the first n keys, the first m links, and the question if it was taken
-unfoldable pub refusingBy : Bool → List ℕ → ℕ → List ℕ → List ℕ → ℕ → Refusing
-refusingBy asked keys n akeys bkeys m =
+-- the keys of the nodes that were taken and of both ends of the links, and how many those are
+pub record Keys : Type 0 where
+  pub keys : List ℕ
+  pub akeys : List ℕ
+  pub bkeys : List ℕ
+  pub counts : Counts
+
+abbrev pub asKeys : List ℕ → List ℕ → List ℕ → Counts → Keys
+asKeys keys akeys bkeys c = record { keys = keys; akeys = akeys; bkeys = bkeys; counts = c }
+
+-- the numbers after them
+unfoldable pub refusingBy : Keys → Refusing
+refusingBy t =
+    let c = t .counts in
     record {
-      node = nodeRefusalByKeys (asked || ltb 0 m) keys n;
-      link = linkRefusalByKeys asked keys n akeys bkeys m;
-      question = questionRefusalByKeys asked keys n;
+      node = nodeRefusalByKeys (c .asked || ltb 0 (c .links)) (t .keys) (c .nodes);
+      link = linkRefusalByKeys (c .asked) (t .keys) (c .nodes) (t .akeys) (t .bkeys) (c .links);
+      question = questionRefusalByKeys (c .asked) (t .keys) (c .nodes);
     }
+
+-- with those of one node, one link or the question more
+unfoldable pub withNodeKey : Keys → ChartNode → Keys
+withNodeKey t n =
+    let c = t .counts in
+    asKeys (set (t .keys) (c .nodes) (stationKey (n .station))) (t .akeys) (t .bkeys) (record { nodes = c .nodes + 1; links = c .links; asked = c .asked })
+
+unfoldable pub withLinkKeys : Keys → Link → Keys
+withLinkKeys t l =
+    let c = t .counts in
+    asKeys (t .keys) (set (t .akeys) (c .links) (endKey (l .a))) (set (t .bkeys) (c .links) (endKey (l .b))) (record { nodes = c .nodes; links = c .links + 1; asked = c .asked })
+
+unfoldable pub withAsked : Keys → Keys
+withAsked t = asKeys (t .keys) (t .akeys) (t .bkeys) (record { nodes = t .counts .nodes; links = t .counts .links; asked = true })
+
+-- with those of one body more, which has one of the three tags
+unfoldable pub keysWith : Keys → ℕ → List ℕ → Keys
+keysWith t tag b =
+    cond (eqb tag nodeTag) (withNodeKey t (nodeIn b))
+    (cond (eqb tag linkTag) (withLinkKeys t (linkIn b))
+    (withAsked t))
+
+-- what taking a body comes to: its number, and the keys with its own unless it is refused
+pub record Takes (t : Keys) (tag : ℕ) (b : List ℕ) (k : ℕ) (u : Keys) : Type 0 where
+  pub refusal : k ≡ bodyRefusal (refusingBy t) tag b
+  pub keys : u ≡ unlessRefused k (keysWith t tag b) t
+
+-- the field at a place, likewise
+pub record TakesField (t : Keys) (bytes : List ℕ) (at : ℕ) (k : ℕ) (u : Keys) : Type 0 where
+  pub refusal : k ≡ fieldRefusal (refusingBy t) bytes at
+  pub keys : u ≡ unlessRefused k (keysWith t (tagAt bytes at) (bodyAt bytes at)) t
+
+-- the place past that field, or the input's end where it is cut short
+unfoldable pub fieldEnd : List ℕ → ℕ → ℕ
+fieldEnd bytes at = cond (cutShort bytes at) (length bytes) (pastField bytes at)

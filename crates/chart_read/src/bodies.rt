@@ -1,4 +1,4 @@
-// Where a field's body is, and what a body of each tag says.
+// Where a field's body is, and what a body of each tag says. A part of a body whose length the compiler knows is read without a test for its end.
 use chart::ChartNode;
 use chart::Link;
 ghost use mathlib.Core.Path.{_≡_};
@@ -6,6 +6,7 @@ ghost use Prim.Native.Nat.{_+_, _<_, _≤_};
 ghost use lib.ListN.{length};
 ghost use Rattle.lists.specs.Places.{row};
 ghost use Rattle.chart_read.specs.Fields.{pastField, bodyAt, bytesFrom, nodeIn, linkIn};
+ghost use Rattle.chart_read.specs.Contracts.{fieldEnd};
 ghost use Rattle.chart.specs.Values.{longestLabel};
 
 // The place past the field that begins at a place.
@@ -14,6 +15,20 @@ pub fn past_field(bytes: &[u8], at: usize) -> usize
     ensures { λ r. ⌜ r ≡ pastField (now (bytes .entry)) at ⌝ }
 {
     at + 3 + buffer::word_at(bytes, at + 1) as usize
+}
+
+// The same, or the input's end where that field is cut short.
+pub fn field_end(bytes: &[u8], at: usize) -> usize
+    ensures { λ r. ⌜ r ≡ fieldEnd (now (bytes .entry)) at ⌝ }
+{
+    if bytes.len() <= at {
+        return bytes.len();
+    }
+    let next = past_field(bytes, at);
+    if bytes.len() < next {
+        return bytes.len();
+    }
+    next
 }
 
 // The body of the field that begins at a place, which is whole.
@@ -45,7 +60,7 @@ pub fn node_in(b: &[u8]) -> ChartNode
     requires { ⌜ (3 ≤ length (now b)) × (length (now b) ≤ 27) ⌝ }
     ensures { λ r. ⌜ r ≡ nodeIn (now (b .entry)) ⌝ }
 {
-    let s = address_bytes::station_in(b, 0);
+    let s = address_bytes::station_in(&b[..3], 0);
     let n = b.len() - 3;
     let label = label_in(b, n);
     ChartNode {
@@ -60,8 +75,9 @@ pub fn link_in(b: &[u8]) -> Link
     requires { ⌜ length (now b) ≡ 9 ⌝ }
     ensures { λ r. ⌜ r ≡ linkIn (now (b .entry)) ⌝ }
 {
-    let p = address_bytes::address_in(b, 0);
-    let q = address_bytes::address_in(b, 4);
+    let ends = &b[..8];
+    let p = address_bytes::address_in(ends, 0);
+    let q = address_bytes::address_in(ends, 4);
     let on = b[8] == 1;
     Link { a: p, b: q, on: on }
 }

@@ -2,24 +2,43 @@
 use bodies::body_at;
 use bodies::link_in;
 use bodies::node_in;
-use bodies::past_field;
 use chart::Chart;
 use chart::Links;
 use chart::Nodes;
-use numbers::LINK_TAG;
-use numbers::NODE_TAG;
-use numbers::field_refusal;
 ghost use mathlib.Core.Path.{_≡_};
 ghost use Rattle.chart_read.specs.Reading.{refusedAt, readChartOf};
 
 mod bodies;
+mod keys;
 mod numbers;
+
+pub use bodies::field_end;
+pub use keys::take_field;
+pub use numbers::LINK_LENGTH;
+pub use numbers::LINK_TAG;
+pub use numbers::NODE_TAG;
+pub use numbers::QUESTION_LENGTH;
+pub use numbers::QUESTION_TAG;
+pub use numbers::SHORTEST_NODE;
 
 // The chart, or the number of the first bad field and the place where it begins.
 pub struct ChartRead {
     pub refusal: u8,
     pub place: usize,
     pub chart: Chart,
+}
+
+// How many nodes and links were taken, and whether the question was.
+pub struct Counts {
+    pub nodes: usize,
+    pub links: usize,
+    pub asked: bool,
+}
+
+// A field's refusal, and the counts after it.
+pub struct Taken {
+    pub refusal: u8,
+    pub counts: Counts,
 }
 
 // A refusal and its place, with a chart of zeros.
@@ -48,40 +67,33 @@ pub fn read_chart(bytes: &[u8]) -> ChartRead
     let mut keys = [0u32; 16];
     let mut akeys = [0u32; 48];
     let mut bkeys = [0u32; 48];
-    let mut n: usize = 0;
-    let mut m: usize = 0;
-    let mut asked = false;
+    let mut counts = Counts {
+        nodes: 0,
+        links: 0,
+        asked: false,
+    };
     let mut at: usize = 0;
     while at < bytes.len() {
-        let k = field_refusal(asked, &keys, n, &akeys, &bkeys, m, bytes, at);
-        if k != 0 {
-            return refused_at(k, at);
+        let t = take_field(&mut keys, &mut akeys, &mut bkeys, counts, bytes, at);
+        if t.refusal != 0 {
+            return refused_at(t.refusal, at);
         }
         let b = body_at(bytes, at);
-        let next = past_field(bytes, at);
-        match bytes[at] {
-            NODE_TAG => {
-                let node = node_in(b);
-                keys[n] = chart_refuse::station_key(node.station);
-                nodes[n] = node;
-                n += 1;
-            }
-            LINK_TAG => {
-                let link = link_in(b);
-                akeys[m] = chart_refuse::end_key(link.a);
-                bkeys[m] = chart_refuse::end_key(link.b);
-                links[m] = link;
-                m += 1;
-            }
+        let tag = bytes[at];
+        let n = counts.nodes;
+        let m = counts.links;
+        counts = t.counts;
+        at = field_end(bytes, at);
+        match tag {
+            NODE_TAG => nodes[n] = node_in(b),
+            LINK_TAG => links[m] = link_in(b),
             _ => {
                 from = address_bytes::station_in(b, 0);
                 to = address_bytes::station_in(b, 3);
-                asked = true;
             }
         }
-        at = next;
     }
-    if !asked {
+    if !counts.asked {
         return refused_at(31, bytes.len());
     }
     ChartRead {
@@ -89,11 +101,11 @@ pub fn read_chart(bytes: &[u8]) -> ChartRead
         place: 0,
         chart: Chart {
             nodes: Nodes {
-                count: n as u8,
+                count: counts.nodes as u8,
                 items: nodes,
             },
             links: Links {
-                count: m as u8,
+                count: counts.links as u8,
                 items: links,
             },
             from,

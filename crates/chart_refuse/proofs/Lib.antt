@@ -1,2 +1,3 @@
 pub mod ByKeys
 pub mod Laws
+pub mod Accepted

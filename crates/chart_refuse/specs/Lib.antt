@@ -1,2 +1,4 @@
 pub mod Contracts
 pub mod Refusal
+pub mod Cases
+pub mod Promises

@@ -63,7 +63,7 @@ module _ (ns : Nodes) where
   unfolding linkRefusalAt
   bare-link ls i = link-agree ns (bare ns) bare-same (linksBefore ls i) (linksBefore ls i) (record { count = refl; links = λ j h. refl }) false (linkAt ls i)
 
-pub labels-are-ink : (c : Chart) → LabelsAreInk c
+pub labels-are-ink : LabelsAreInk
 unfolding chartRefusal chartValuesRefusal unlabelled bare
 labels-are-ink c r =
     let ns = c .nodes in

@@ -1,5 +1,5 @@
 -- Laws of the writer: how long its fields are, what its loops store, and its answer.
-use Prim.Native.Nat.{ℕ, _+_, _*_, _/_, _%_, _<_, _≤_}
+use Prim.Native.Nat.{ℕ, _+_, _*_, _<_, _≤_}
 use mathlib.Core.Path.{_≡_, refl, sym, ap, ap₂, _∙_}
 use mathlib.Core.List.{List, _∷_, _++_, append-assoc}
 use native.Mathlib.Omega.{arith}
@@ -8,54 +8,69 @@ use lib.Seq.{sets}
 use borrow.Author.Tests.{lt-ltb, le-ltb}
 use Rattle.lists.specs.Places.{elementAt, firsts, joined}
 use Rattle.lists.specs.Refusals.{unlessRefused}
+use Rattle.buffer.specs.Bytes.{wordBytes}
 use Rattle.buffer.specs.declared.Written.{Written}
 use Rattle.buffer.specs.declared.Written.the-variants.{Wrote, Refused}
 use Rattle.buffer.specs.Writing.{writtenRefusal, writtenCount, wroteUnless}
-use Rattle.lists.proofs.Places.{length-firsts, length-joined}
+use Rattle.lists.proofs.Places.{length-firsts, length-joined, joined-none}
 use Rattle.lists.proofs.Refusals.{or-refused, taken, refused}
 use Rattle.lists.proofs.Stores.{sets-append, sets-front}
-use Rattle.lists.proofs.Runs.{length-joined-next, joined-put}
+use Rattle.lists.proofs.Runs.{length-joined-next, joined-within, joined-most}
 use Rattle.buffer.proofs.Writing.{wrote-refusal, wrote-count, wrote-taken, wrote-refused}
 use Rattle.address.specs.declared.Station.{Station}
+use Rattle.address_bytes.specs.Wide.{stationBytes}
 use Rattle.chart.specs.declared.ChartNode.{ChartNode}
 use Rattle.chart.specs.declared.Link.{Link}
 use Rattle.chart.specs.declared.Nodes.{Nodes}
 use Rattle.chart.specs.declared.Links.{Links}
 use Rattle.chart.specs.declared.Chart.{Chart}
-use Rattle.chart.specs.Values.{nodeAt, linkAt}
-use Rattle.chart.proofs.Laws.{node-read, link-read}
+use Rattle.chart.specs.Values.{longestLabel, nodeAt, linkAt}
+use Rattle.chart.proofs.Laws.{node-read}
 use Rattle.chart_refuse.specs.Refusal.{chartRefusal}
-use Rattle.chart_read.specs.Fields.{tagged}
-use Rattle.chart_write.specs.Writing.{nodeBody, linkBody, questionBody, nodeField, linkField, questionField, chartBytes, chartWriteRefusal, writeChartOf, chartAfter}
-use Rattle.chart_write.specs.Contracts.{nodeHead, Short}
-use Rattle.chart_refuse.proofs.Laws.{Passed, node-of}
+use Rattle.chart_read.specs.Fields.{nodeTag, linkTag, questionTag, shortestNode, longestNode, linkLength, questionLength, tagged}
+use Rattle.chart_write.specs.Writing.{nodeBody, linkBody, questionBody, nodeField, linkField, questionField, headSize, linkFieldSize, questionFieldSize, longestNodeField, chartBytes, chartWriteRefusal, writeChartOf, chartAfter}
+use Rattle.chart_write.specs.Contracts.{Short}
+use Rattle.chart_refuse.proofs.Laws.{passed, node-of}
 
 -- ---- how long the fields are
 
-pub length-tagged : (tag : ℕ) (body : List ℕ) → length (tagged tag body) ≡ 3 + length body
+pub length-tagged : (tag : ℕ) (body : List ℕ) → length (tagged tag body) ≡ headSize + length body
 unfolding tagged
 length-tagged tag body = omega arith
 
-pub length-node-body : (n : ChartNode) → length (nodeBody n) ≡ 3 + n .length
+pub length-node-body : (n : ChartNode) → length (nodeBody n) ≡ shortestNode + n .length
 unfolding nodeBody
 length-node-body n = omega (arith, length-firsts (elementAt 0 (n .label)) (n .length))
 
-pub length-node : (n : ChartNode) → length (nodeField n) ≡ 6 + n .length
+pub length-node : (n : ChartNode) → length (nodeField n) ≡ headSize + length (nodeBody n)
 unfolding nodeField
-length-node n = omega (arith, length-tagged 1 (nodeBody n), length-node-body n)
+length-node n = length-tagged nodeTag (nodeBody n)
 
-pub length-link : (l : Link) → length (linkField l) ≡ 12
-unfolding linkField tagged linkBody
-length-link l = refl
+-- fields of short labels
+pub nodes-most : (ns : Nodes) (n : ℕ) → ((i : ℕ) → i < n → nodeAt ns i .length ≤ longestLabel) → length (joined nodeField (nodeAt ns) n) ≤ longestNodeField * n
+nodes-most ns n h = joined-most nodeField (nodeAt ns) longestNodeField n (λ i l. omega (arith, h i l, length-node (nodeAt ns i), length-node-body (nodeAt ns i)))
 
-pub length-question : (from to : Station) → length (questionField from to) ≡ 9
-unfolding questionField tagged questionBody
-length-question from to = refl
+pub length-link-body : (l : Link) → length (linkBody l) ≡ linkLength
+unfolding linkBody
+length-link-body l = refl
 
-pub length-links : (ls : Links) (n : ℕ) → length (joined linkField (linkAt ls) n) ≡ 12 * n
-length-links ls n = length-joined linkField 12 length-link (linkAt ls) n
+pub length-link : (l : Link) → length (linkField l) ≡ linkFieldSize
+unfolding linkField
+length-link l = length-tagged linkTag (linkBody l) ∙ ap (λ (n : ℕ). headSize + n) (length-link-body l)
 
-pub length-chart : (c : Chart) → length (chartBytes c) ≡ length (joined nodeField (nodeAt (c .nodes)) (c .nodes .count)) + 12 * c .links .count + 9
+pub length-question-body : (from to : Station) → length (questionBody from to) ≡ questionLength
+unfolding questionBody
+length-question-body from to = refl
+
+pub length-question : (from to : Station) → length (questionField from to) ≡ questionFieldSize
+unfolding questionField
+length-question from to = length-tagged questionTag (questionBody from to) ∙ ap (λ (n : ℕ). headSize + n) (length-question-body from to)
+
+pub length-links : (ls : Links) (n : ℕ) → length (joined linkField (linkAt ls) n) ≡ linkFieldSize * n
+length-links ls n = length-joined linkField linkFieldSize length-link (linkAt ls) n
+
+pub length-chart : (c : Chart)
+    → length (chartBytes c) ≡ length (joined nodeField (nodeAt (c .nodes)) (c .nodes .count)) + linkFieldSize * c .links .count + questionFieldSize
 unfolding chartBytes
 length-chart c =
     let N = joined nodeField (nodeAt (c .nodes)) (c .nodes .count) in
@@ -63,57 +78,38 @@ length-chart c =
     let Q = questionField (c .from) (c .to) in
     omega (arith, length-append N (L ++ Q), length-append L Q, length-links (c .links) (c .links .count), length-question (c .from) (c .to))
 
--- a node's field in two parts
-pub node-parts : (n : ChartNode) → nodeHead n ++ firsts (elementAt 0 (n .label)) (n .length) ≡ nodeField n
-unfolding nodeField tagged
-node-parts n = whole (length (nodeBody n)) (length-node-body n)
-  where
-    whole : (k : ℕ) → k ≡ 3 + n .length → nodeHead n ++ firsts (elementAt 0 (n .label)) (n .length) ≡ 1 ∷ k / 256 ∷ k % 256 ∷ nodeBody n
-    whole k e = rw e (unfold nodeBody in refl)
-
 -- ---- what a loop reads and stores at a place
 
-pub size-next : (ns : Nodes) (d : ChartNode) (i size : ℕ) → i < length (ns .items) → size ≡ length (joined nodeField (nodeAt ns) i)
-    → size + (6 + getD (ns .items) i d .length) ≡ length (joined nodeField (nodeAt ns) (i + 1))
-size-next ns d i size h e =
-    omega (arith, length-joined-next nodeField (nodeAt ns) i, length-node (nodeAt ns i), ap (λ (n : ChartNode). n .length) (node-read ns d i h))
+-- the label of a node that is read
+pub short-read : (ns : Nodes) → Short ns → (d : ChartNode) (i : ℕ) → i < ns .count → i < length (ns .items) → getD (ns .items) i d .length ≤ longestLabel
+short-read ns s d i h k = omega (arith, s .short i h, ap (λ (n : ChartNode). n .length) (node-read ns d i k))
 
--- a node's field has at most 30 bytes
-pub thirty-more : (at i x : ℕ) → at ≤ 30 * i → x ≤ 24 → at + (6 + x) ≤ 30 * (i + 1)
-thirty-more at i x h k = omega arith
+-- the offset past the first i nodes, each with a field of at most 30 bytes
+abbrev pub Past : Nodes → ℕ → ℕ → Type 0
+Past ns i at = (at ≡ length (joined nodeField (nodeAt ns) i)) × (at ≤ longestNodeField * i)
 
-pub node-stored : (ns : Nodes) (d : ChartNode) (i at : ℕ) (l m : List ℕ) → i < length (ns .items) → at ≡ length (joined nodeField (nodeAt ns) i)
-    → m ≡ sets l 0 (joined nodeField (nodeAt ns) i) → sets m at (nodeField (getD (ns .items) i d)) ≡ sets l 0 (joined nodeField (nodeAt ns) (i + 1))
-node-stored ns d i at l m h e f =
-    let z : at ≡ 0 + length (joined nodeField (nodeAt ns) i) = omega arith in
-    ap₂ (λ (x : List ℕ) (n : ChartNode). sets x at (nodeField n)) f (node-read ns d i h) ∙ joined-put nodeField (nodeAt ns) l 0 at i z
+pub past-none : (ns : Nodes) → Past ns 0 0
+past-none ns = (rw (joined-none nodeField (nodeAt ns)) refl, omega arith)
 
-pub link-stored : (ls : Links) (d : Link) (i at : ℕ) (l m b : List ℕ) → i < length (ls .items) → b ≡ linkField (getD (ls .items) i d)
-    → m ≡ sets l at (joined linkField (linkAt ls) i) → sets m (at + 12 * i) b ≡ sets l at (joined linkField (linkAt ls) (i + 1))
-link-stored ls d i at l m b h g f =
-    ap₂ (λ (x y : List ℕ). sets x (at + 12 * i) y) f (g ∙ ap linkField (link-read ls d i h))
-    ∙ joined-put linkField (linkAt ls) l at (at + 12 * i) i (ap (λ (k : ℕ). at + k) (sym (length-links ls i)))
+pub past-next : (ns : Nodes) (d : ChartNode) (i at long : ℕ) → i < length (ns .items) → (long ≡ length (nodeBody (getD (ns .items) i d))) × (long ≤ longestNode)
+    → Past ns i at → Past ns (i + 1) (at + (headSize + long))
+past-next ns d i at long h e p = (
+  omega (arith, e .0, p .0, length-joined-next nodeField (nodeAt ns) i, length-node (nodeAt ns i), ap (λ (n : ChartNode). length (nodeBody n)) (node-read ns d i h)),
+  omega (arith, e .1, p .1),
+)
 
--- the parts of a chart, one after the other
-pub chart-stored : (c : Chart) (l : List ℕ) (at : ℕ) → at ≡ length (joined nodeField (nodeAt (c .nodes)) (c .nodes .count))
-    → sets (sets (sets l 0 (joined nodeField (nodeAt (c .nodes)) (c .nodes .count))) at (joined linkField (linkAt (c .links)) (c .links .count))) (at + 12 * c .links .count) (questionField (c .from) (c .to))
-    ≡ sets l 0 (chartBytes c)
-unfolding chartBytes
-chart-stored c l at e =
-    let N = joined nodeField (nodeAt (c .nodes)) (c .nodes .count) in
-    let L = joined linkField (linkAt (c .links)) (c .links .count) in
-    let Q = questionField (c .from) (c .to) in
-    ap (λ (x : List ℕ). sets x (at + 12 * c .links .count) Q) (sets-append N l 0 L at (omega arith))
-    ∙ sets-append (N ++ L) l 0 Q (at + 12 * c .links .count) (omega (arith, length-append N L, length-links (c .links) (c .links .count)))
-    ∙ ap (sets l 0) (append-assoc N L Q)
+-- where the fields of all nodes fit, the next does
+pub node-fits : (ns : Nodes) (d : ChartNode) (i at room : ℕ) → i < ns .count → i < length (ns .items) → Past ns i at → length (joined nodeField (nodeAt ns) (ns .count)) ≤ room
+    → at + length (nodeField (getD (ns .items) i d)) ≤ room
+node-fits ns d i at room h k p m =
+    omega (arith, p .0, joined-within nodeField (nodeAt ns) (ns .count) i h, ap (λ (n : ChartNode). length (nodeField n)) (node-read ns d i k))
 
 -- ---- a chart whose number is 0
 
-pub short : (c : Chart) → Passed c → Short (c .nodes)
-short c p = record { few = p .few-nodes; short = λ i h. node-of c p i h .short }
-
-pub short-read : (ns : Nodes) → Short ns → (d : ChartNode) (i : ℕ) → i < ns .count → i < length (ns .items) → getD (ns .items) i d .length ≤ 24
-short-read ns s d i h k = omega (arith, s .short i h, ap (λ (n : ChartNode). n .length) (node-read ns d i k))
+pub short : (c : Chart) → chartRefusal c ≡ 0 → Short (c .nodes)
+short c z =
+    let p = passed c z in
+    record { few = p .few-nodes; short = λ i h. node-of c p i h .short }
 
 -- ---- the answer
 
@@ -156,19 +152,40 @@ write-wrote c out z h =
 
 -- ---- fields stored in parts
 
-pub node-put : (n : ChartNode) (l m o head : List ℕ) (at : ℕ) → head ≡ nodeHead n → m ≡ sets l at head → o ≡ sets m (at + 6) (firsts (elementAt 0 (n .label)) (n .length))
-    → o ≡ sets l at (nodeField n)
-node-put n l m o head at e f g =
-    g ∙ ap (λ (x : List ℕ). sets x (at + 6) (firsts (elementAt 0 (n .label)) (n .length))) (f ∙ ap (sets l at) e)
-    ∙ sets-append (nodeHead n) l at (firsts (elementAt 0 (n .label)) (n .length)) (at + 6) refl
-    ∙ ap (sets l at) (node-parts n)
+-- the tag and the length, then the body
+pub field-put : (tag : ℕ) (body l m o : List ℕ) (at : ℕ) → m ≡ sets l at (tag ∷ wordBytes (length body)) → o ≡ sets m (at + headSize) body → o ≡ sets l at (tagged tag body)
+unfolding tagged
+field-put tag body l m o at f g =
+    g ∙ ap (λ (x : List ℕ). sets x (at + headSize) body) f ∙ sets-append (tag ∷ wordBytes (length body)) l at body (at + headSize) refl
 
+-- a node's body is stored in two parts
+pub node-put : (n : ChartNode) (long : ℕ) (l m o p s : List ℕ) (at : ℕ) → long ≡ length (nodeBody n) → m ≡ sets l at (nodeTag ∷ wordBytes long)
+    → s ≡ stationBytes (n .station) → o ≡ sets m (at + headSize) s → p ≡ sets o (at + headSize + shortestNode) (firsts (elementAt 0 (n .label)) (n .length))
+    → p ≡ sets l at (nodeField n)
+unfolding nodeField
+node-put n long l m o p s at k f e g h = field-put nodeTag (nodeBody n) l m p at (f ∙ ap (λ (w : ℕ). sets l at (nodeTag ∷ wordBytes w)) k) (body ∙ (unfold nodeBody in refl))
+  where
+    label : List ℕ
+    label = firsts (elementAt 0 (n .label)) (n .length)
+
+    body : p ≡ sets m (at + headSize) (stationBytes (n .station) ++ label)
+    body =
+        h ∙ ap (λ (x : List ℕ). sets x (at + headSize + shortestNode) label) (g ∙ ap (sets m (at + headSize)) e)
+        ∙ sets-append (stationBytes (n .station)) m (at + headSize) label (at + headSize + shortestNode) refl
+
+-- the parts of a chart, one after the other
 pub chart-put : (c : Chart) (l m o p b : List ℕ) (at : ℕ) → at ≡ length (joined nodeField (nodeAt (c .nodes)) (c .nodes .count))
     → m ≡ sets l 0 (joined nodeField (nodeAt (c .nodes)) (c .nodes .count))
     → o ≡ sets m at (joined linkField (linkAt (c .links)) (c .links .count))
-    → b ≡ questionField (c .from) (c .to)
-    → p ≡ sets o (at + 12 * c .links .count) b
+    → b ≡ questionBody (c .from) (c .to)
+    → p ≡ sets o (at + linkFieldSize * c .links .count) (tagged questionTag b)
     → p ≡ sets l 0 (chartBytes c)
+unfolding chartBytes questionField
 chart-put c l m o p b at e f g h k =
-    k ∙ ap₂ (λ (x y : List ℕ). sets x (at + 12 * c .links .count) y) (g ∙ ap (λ (x : List ℕ). sets x at (joined linkField (linkAt (c .links)) (c .links .count))) f) h
-    ∙ chart-stored c l at e
+    let N = joined nodeField (nodeAt (c .nodes)) (c .nodes .count) in
+    let L = joined linkField (linkAt (c .links)) (c .links .count) in
+    let Q = questionField (c .from) (c .to) in
+    let next = at + linkFieldSize * c .links .count in
+    k ∙ ap₂ (λ (x y : List ℕ). sets x next (tagged questionTag y)) (g ∙ ap (λ (x : List ℕ). sets x at L) f ∙ sets-append N l 0 L at (omega arith)) h
+    ∙ sets-append (N ++ L) l 0 Q next (omega (arith, length-append N L, length-links (c .links) (c .links .count)))
+    ∙ ap (sets l 0) (append-assoc N L Q)

@@ -9,27 +9,25 @@ use borrow.Author.Tests.{le-ltb}
 use Rattle.buffer.specs.Bytes.{Bytes}
 use Rattle.buffer.specs.declared.Written.the-variants.{Wrote}
 use Rattle.lists.proofs.Refusals.{taken, or-pass}
-use Rattle.lists.proofs.Runs.{joined-most}
 use Rattle.buffer.proofs.Writing.{wrote-size, wrote-taken}
 use Rattle.chart.specs.declared.Chart.{Chart}
-use Rattle.chart.specs.Values.{nodeAt}
 use Rattle.chart_read.specs.Reading.{readChartOf}
 use Rattle.chart_refuse.specs.Refusal.{chartValuesRefusal, chartRefusal}
-use Rattle.chart_write.specs.Writing.{nodeField, chartBytes, chartWriteRefusal, writeChartOf, chartAfter, tidy}
-use Rattle.chart_write.specs.Promises.{ChartReadBack, ChartWrittenBack, SameRefusal}
+use Rattle.chart_write.specs.Writing.{longestChart, chartBytes, chartWriteRefusal, writeChartOf, chartAfter, tidy}
+use Rattle.chart_write.specs.Promises.{ChartReadUndoesWrite, ChartWriteUndoesRead, ChartsShort, PlacesNear, SameRefusal}
 use Rattle.chart_refuse.proofs.Laws.{passed, node-of}
-use Rattle.chart_write.proofs.Laws.{length-node, length-chart, refusal-none}
+use Rattle.chart_write.proofs.Laws.{nodes-most, length-chart, refusal-none}
 use Rattle.chart_write.proofs.ReadWhole.{read-written}
 use Rattle.chart_write.proofs.WriteBack.{read-good}
 
 -- an accepted chart has at most 1,065 bytes
-pub chart-short : (c : Chart) → chartRefusal c ≡ 0 → length (chartBytes c) ≤ 1065
+pub chart-short : ChartsShort
 chart-short c z =
     let p = passed c z in
     omega (
       arith,
       length-chart c,
-      joined-most nodeField (nodeAt (c .nodes)) 30 (c .nodes .count) (λ i h. omega (arith, length-node (nodeAt (c .nodes) i), node-of c p i h .short)),
+      nodes-most (c .nodes) (c .nodes .count) (λ i h. node-of c p i h .short),
       p .few-nodes,
       p .few-links,
     )
@@ -39,7 +37,7 @@ counted : (c : Chart) → c .nodes .count ≤ 16 → c .links .count ≤ 48 → 
 unfolding chartRefusal
 counted c n l = rw (le-ltb 16 (c .nodes .count) n, le-ltb 48 (c .links .count) l)
 
-pub same-refusal : (c : Chart) → SameRefusal c
+pub same-refusal : SameRefusal
 same-refusal c n l = read-written c n l .0 ∙ sym (counted c n l)
 
 pub read-back : (c : Chart) → chartRefusal c ≡ 0 → readChartOf (chartBytes c) ≡ record { refusal = 0; place = 0; chart = tidy c }
@@ -48,7 +46,7 @@ read-back c z =
     read-written c (p .few-nodes) (p .few-links) .1 (sym (counted c (p .few-nodes) (p .few-links)) ∙ z)
 
 -- reading undoes writing, of whatever the writer takes
-pub read-undoes-write : (c : Chart) (out : List ℕ) (n : ℕ) → writeChartOf c (length out) ≡ Wrote n → ChartReadBack c out n
+pub read-undoes-write : ChartReadUndoesWrite
 unfolding writeChartOf chartAfter chartWriteRefusal
 read-undoes-write c out n h =
     let w = wrote-size n (chartWriteRefusal c (length out)) (length (chartBytes c)) h in
@@ -58,8 +56,7 @@ read-undoes-write c out n h =
     record { chart = ap readChartOf b ∙ read-back c z; short = omega (arith, w .1, chart-short c z) }
 
 -- writing undoes reading, of any bytes that the reader takes
-pub write-undoes-read : (bytes : List ℕ) → Bytes bytes → readChartOf bytes .refusal ≡ 0 → (out : List ℕ) → length bytes ≤ length out
-    → ChartWrittenBack bytes (readChartOf bytes .chart) out
+pub write-undoes-read : ChartWriteUndoesRead
 unfolding writeChartOf chartAfter
 write-undoes-read bytes s h out room =
     let c = readChartOf bytes .chart in
@@ -75,5 +72,5 @@ write-undoes-read bytes s h out room =
     }
 
 -- a refusal's place is at most 1,065, however long the input
-pub place-near : (bytes : List ℕ) → Bytes bytes → readChartOf bytes .place ≤ 1065
+pub place-near : PlacesNear
 place-near bytes s = read-good bytes s .near

@@ -28,7 +28,7 @@ use Rattle.chart_read.specs.Reading.{SoFar, withBody, refusing, nodeBodyRefusal
 use Rattle.chart_read.proofs.Fields.{refusal-there, held-there, begins-there, past-there}
 use Rattle.chart_read.proofs.Walking.{heldPast, Reaches, reach-next, reach-refused}
 use Rattle.chart_write.specs.Writing.{nodeBody, onByte, linkBody, questionBody, tidyNode}
-use Rattle.chart_write.proofs.Laws.{length-node-body}
+use Rattle.chart_write.proofs.Laws.{length-node-body, length-link-body, length-question-body}
 use Rattle.chart_write.proofs.Agree.{tidy-refusal}
 
 -- ---- each body, read back
@@ -90,8 +90,7 @@ pub link-refusal-back : (refusal : Link → ℕ) (l : Link) → linkBodyRefusal 
 unfolding linkBodyRefusal
 link-refusal-back refusal l =
     let e : getD (linkBody l) 8 0 ≡ onByte (l .on) = unfold linkBody in refl in
-    let n : length (linkBody l) ≡ 9 = unfold linkBody in refl in
-    rw (n, e, on-small (l .on)) (ap refusal (link-back l))
+    rw (length-link-body l, e, on-small (l .on)) (ap refusal (link-back l))
 
 pub question-back : (from to : Station) → (stationIn (questionBody from to) 0 ≡ from) × (stationIn (questionBody from to) 3 ≡ to)
 unfolding questionBody
@@ -100,9 +99,8 @@ question-back from to = (station-back from (stationBytes to), station-back to []
 pub question-refusal-back : (refusal : Station → Station → ℕ) (from to : Station) → questionBodyRefusal refusal (questionBody from to) ≡ refusal from to
 unfolding questionBodyRefusal
 question-refusal-back refusal from to =
-    let n : length (questionBody from to) ≡ 6 = unfold questionBody in refl in
     let q = question-back from to in
-    rw n (ap₂ refusal (q .0) (q .1))
+    rw (length-question-body from to) (ap₂ refusal (q .0) (q .1))
 
 -- ---- a run of fields, one after the other
 

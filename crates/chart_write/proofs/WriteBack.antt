@@ -13,7 +13,7 @@ use Rattle.buffer.specs.Bytes.{Bytes}
 use Rattle.lists.specs.Places.{elementAt, firsts, row, joined}
 use Rattle.lists.proofs.Bools.{or-neither-of}
 use Rattle.lists.proofs.Places.{firsts-agree, row-at, joined-none}
-use Rattle.lists.proofs.Runs.{firsts-take, joined-set, joined-most}
+use Rattle.lists.proofs.Runs.{firsts-take, joined-set}
 use Rattle.address.specs.declared.Station.{Station}
 use Rattle.address_bytes.specs.Wide.{stationIn}
 use Rattle.chart.specs.declared.ChartNode.{ChartNode}
@@ -23,13 +23,14 @@ use Rattle.chart.specs.Values.{noChart, noNode, noLink, nodeAt, linkAt}
 use Rattle.chart.specs.Refusals.{nodeRefusal, linkRefusal, questionRefusal}
 use Rattle.chart.proofs.Laws.{node-passed, link-passed, question-passed}
 use Rattle.chart_read.specs.declared.ChartRead.{ChartRead}
-use Rattle.chart_read.specs.Fields.{tagged, tagAt, bodyAt, pastField, bytesFrom, nodeIn, linkIn}
+use Rattle.chart_read.specs.Fields.{linkLength, questionLength, tagged, tagAt, bodyAt, pastField, bytesFrom, nodeIn, linkIn}
 use Rattle.chart_read.specs.Reading.{SoFar, nothing, withNode, withLink, withQuestion, withBody, nodeLate, refusing, nodeBodyRefusal, linkBodyRefusal, questionBodyRefusal, bodyRefusal, fieldRefusal, refusedAt, atEnd, onward, walk, readChartOf}
 use Rattle.chart_read.proofs.Laws.{with-node, with-link, with-question, node-zero, link-zero, question-tag, question-zero, node-bounds, link-bounds, question-bounds, whole, body-zero}
-use Rattle.chart_read.proofs.Fields.{high-back, low-back, three-on, field-there, bytes-body}
+use Rattle.chart_read.proofs.Fields.{three-on, field-there, bytes-body}
+use Rattle.buffer.proofs.Words.{high-back, low-back}
 use Rattle.chart_read.proofs.Walking.{heldPast, turn, walk-end}
-use Rattle.chart_write.specs.Writing.{nodeBody, onByte, linkBody, questionBody, nodeField, linkField, questionField, chartBytes}
-use Rattle.chart_write.proofs.Laws.{length-node, length-links, length-question}
+use Rattle.chart_write.specs.Writing.{nodeBody, onByte, linkBody, questionBody, nodeField, linkField, questionField, linkFieldSize, questionFieldSize, longestNodeField, longestChart, chartBytes}
+use Rattle.chart_write.proofs.Laws.{nodes-most, length-links, length-question}
 
 -- ---- the bodies: what a body says, written, is the body
 
@@ -54,26 +55,26 @@ on-is zero h = refl
 on-is (suc zero) h = refl
 on-is (suc (suc x)) h = absurd (omega arith)
 
--- nine bytes, written out
-nine : (b : List ℕ) → length b ≡ 9
+-- a link's bytes, written out
+link-bytes : (b : List ℕ) → length b ≡ linkLength
     → b ≡ getD b 0 0 ∷ getD b 1 0 ∷ getD b 2 0 ∷ getD b 3 0 ∷ getD b 4 0 ∷ getD b 5 0 ∷ getD b 6 0 ∷ getD b 7 0 ∷ getD b 8 0 ∷ []
-nine b h =
+link-bytes b h =
     three-on b 0 (omega arith)
     ∙ ap (λ (t : List ℕ). getD b 0 0 ∷ getD b 1 0 ∷ getD b 2 0 ∷ t)
     (three-on b 3 (omega arith)
     ∙ ap (λ (t : List ℕ). getD b 3 0 ∷ getD b 4 0 ∷ getD b 5 0 ∷ t)
-    (three-on b 6 (omega arith) ∙ ap (λ (t : List ℕ). getD b 6 0 ∷ getD b 7 0 ∷ getD b 8 0 ∷ t) (drop-of-length-le b {i = 9} (omega arith))))
+    (three-on b 6 (omega arith) ∙ ap (λ (t : List ℕ). getD b 6 0 ∷ getD b 7 0 ∷ getD b 8 0 ∷ t) (drop-of-length-le b {i = linkLength} (omega arith))))
 
-link-body-back : (b : List ℕ) → Bytes b → length b ≡ 9 → getD b 8 0 ≤ 1 → linkBody (linkIn b) ≡ b
+link-body-back : (b : List ℕ) → Bytes b → length b ≡ linkLength → getD b 8 0 ≤ 1 → linkBody (linkIn b) ≡ b
 unfolding linkBody linkIn
 link-body-back b s l o =
     (λ i.
     getD b 0 0 ∷ high-back (getD b 1 0) (getD b 2 0) (s 2) i ∷ low-back (getD b 1 0) (getD b 2 0) (s 2) i ∷ getD b 3 0
     ∷ getD b 4 0 ∷ high-back (getD b 5 0) (getD b 6 0) (s 6) i ∷ low-back (getD b 5 0) (getD b 6 0) (s 6) i ∷ getD b 7 0
     ∷ on-is (getD b 8 0) o i ∷ [])
-    ∙ sym (nine b l)
+    ∙ sym (link-bytes b l)
 
-question-body-back : (b : List ℕ) → Bytes b → length b ≡ 6 → questionBody (stationIn b 0) (stationIn b 3) ≡ b
+question-body-back : (b : List ℕ) → Bytes b → length b ≡ questionLength → questionBody (stationIn b 0) (stationIn b 3) ≡ b
 unfolding questionBody
 question-body-back b s l =
     (λ i.
@@ -81,7 +82,7 @@ question-body-back b s l =
     ∷ getD b 3 0 ∷ high-back (getD b 4 0) (getD b 5 0) (s 5) i ∷ low-back (getD b 4 0) (getD b 5 0) (s 5) i ∷ [])
     ∙ sym (three-on b 0 (omega arith)
     ∙ ap (λ (t : List ℕ). getD b 0 0 ∷ getD b 1 0 ∷ getD b 2 0 ∷ t)
-    (three-on b 3 (omega arith) ∙ ap (λ (t : List ℕ). getD b 3 0 ∷ getD b 4 0 ∷ getD b 5 0 ∷ t) (drop-of-length-le b {i = 6} (omega arith))))
+    (three-on b 3 (omega arith) ∙ ap (λ (t : List ℕ). getD b 3 0 ∷ getD b 4 0 ∷ getD b 5 0 ∷ t) (drop-of-length-le b {i = questionLength} (omega arith))))
 
 -- ---- the bytes of what is held
 
@@ -221,19 +222,19 @@ held-all s d =
     joined nodeField (nodeAt (s .chart .nodes)) (s .chart .nodes .count)
     ++ (joined linkField (linkAt (s .chart .links)) (s .chart .links .count) ++ cond b (questionField (s .chart .from) (s .chart .to)) [])) d
 
-held-small : (s : SoFar) → Kept s → length (heldBytes s) ≤ 1065
+held-small : (s : SoFar) → Kept s → length (heldBytes s) ≤ longestChart
 unfolding heldBytes
 held-small s k =
     let c = s .chart in
     let N = joined nodeField (nodeAt (c .nodes)) (c .nodes .count) in
     let L = joined linkField (linkAt (c .links)) (c .links .count) in
     let T = cond (s .asked) (questionField (c .from) (c .to)) [] in
-    let n : length N ≤ 30 * c .nodes .count = joined-most nodeField (nodeAt (c .nodes)) 30 (c .nodes .count) (λ i h. omega (arith, length-node (nodeAt (c .nodes) i), k .short i h)) in
-    let l : length L ≡ 12 * c .links .count = length-links (c .links) (c .links .count) in
-    let q : length T ≤ 9 = tail (s .asked) in
+    let n : length N ≤ longestNodeField * c .nodes .count = nodes-most (c .nodes) (c .nodes .count) (k .short) in
+    let l : length L ≡ linkFieldSize * c .links .count = length-links (c .links) (c .links .count) in
+    let q : length T ≤ questionFieldSize = tail (s .asked) in
     omega (arith, length-append N (L ++ T), length-append L T, k .few-nodes, k .few-links)
   where
-    tail : (b : Bool) → length (cond b (questionField (s .chart .from) (s .chart .to)) []) ≤ 9
+    tail : (b : Bool) → length (cond b (questionField (s .chart .from) (s .chart .to)) []) ≤ questionFieldSize
     tail true = omega (arith, length-question (s .chart .from) (s .chart .to))
     tail false = omega arith
 
@@ -251,9 +252,9 @@ module _ (bytes : List ℕ) (small : Bytes bytes) where
 
   pub record Good (r : ChartRead) : Type 0 where
     pub undone : r .refusal ≡ 0 → Undone (r .chart)
-    pub near : r .place ≤ 1065
+    pub near : r .place ≤ longestChart
 
-  place-small : (s : SoFar) (at : ℕ) → Holds s at → at ≤ 1065
+  place-small : (s : SoFar) (at : ℕ) → Holds s at → at ≤ longestChart
   place-small s at H = omega (arith, held-small s (H .kept), ap length (H .passed), length-take-le at bytes (H .within))
 
   holds-next : (s : SoFar) (at : ℕ) → Holds s at → fieldRefusal (refusing s) bytes at ≡ 0 → Holds (heldPast s bytes at) (pastField bytes at)

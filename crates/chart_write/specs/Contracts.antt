@@ -1,18 +1,13 @@
--- What the code that stores a chart's bytes asks, and a node's field up to its label.
-use Prim.Native.Nat.{ℕ, _+_, _≤_, _<_}
-use mathlib.Core.List.{List, _∷_, _++_}
-use Rattle.buffer.specs.Bytes.{wordBytes}
-use Rattle.address_bytes.specs.Wide.{stationBytes}
-use Rattle.chart.specs.declared.ChartNode.{ChartNode}
+-- What the code that stores a chart's bytes asks.
+use Prim.Native.Nat.{ℕ, _≤_, _<_}
 use Rattle.chart.specs.declared.Nodes.{Nodes}
-use Rattle.chart.specs.Values.{nodeAt}
-use Rattle.chart_read.specs.Fields.{nodeTag}
+use Rattle.chart.specs.Values.{mostNodes, longestLabel, nodeAt}
 
--- the tag, the length of the body and the station
-abbrev pub nodeHead : ChartNode → List ℕ
-nodeHead n = nodeTag ∷ wordBytes (3 + n .length) ++ stationBytes (n .station)
+-- the longest body whose length two bytes can say
+abbrev pub longestBody : ℕ
+longestBody = 65535
 
 -- at most 16 nodes with labels of at most 24 bytes
 pub record Short (ns : Nodes) : Type 0 where
-  pub few : ns .count ≤ 16
-  pub short : (i : ℕ) → i < ns .count → nodeAt ns i .length ≤ 24
+  pub few : ns .count ≤ mostNodes
+  pub short : (i : ℕ) → i < ns .count → nodeAt ns i .length ≤ longestLabel

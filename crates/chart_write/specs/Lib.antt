@@ -1,3 +1,4 @@
 pub mod Writing
 pub mod Contracts
 pub mod Promises
+pub mod Cases

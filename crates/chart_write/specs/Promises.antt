@@ -5,25 +5,24 @@ use mathlib.Core.List.{List, [], _∷_, _++_}
 use mathlib.Core.Bool.{true, false}
 use lib.ListN.{length, take, drop, replicate}
 use Rattle.lists.specs.Places.{anyBelow, row}
+use Rattle.lists.specs.Refusals.{among}
+use Rattle.buffer.specs.Bytes.{Bytes}
 use Rattle.buffer.specs.declared.Written.the-variants.{Wrote}
-use Rattle.address.specs.Address.{stationOf, sameStation}
 use Rattle.chart.specs.declared.ChartNode.{ChartNode}
 use Rattle.chart.specs.declared.Nodes.{Nodes}
-use Rattle.chart.specs.declared.Links.{Links}
 use Rattle.chart.specs.declared.Chart.{Chart}
-use Rattle.chart.specs.Values.{mostNodes, mostLinks, longestLabel, noNode, nodeAt, linkAt, strayByte, hasNode}
+use Rattle.chart.specs.Values.{mostNodes, mostLinks, longestLabel, noNode, nodeAt, strayByte}
 use Rattle.chart_read.specs.Reading.{readChartOf}
-use Rattle.chart_refuse.specs.Refusal.{nodesBefore, chartRefusal}
-use Rattle.chart_write.specs.Writing.{chartBytes, writeChartOf, chartAfter, tidy}
-
--- the longest chart: 16 nodes of 30 bytes, 48 links of 12, a question of 9
-abbrev pub longestChart : ℕ
-longestChart = 1065
+use Rattle.chart_refuse.specs.Refusal.{chartRefusal}
+use Rattle.chart_write.specs.Writing.{longestChart, chartBytes, chartWriteRefusal, writeChartOf, chartAfter, tidy}
 
 -- reading undoes writing: the n bytes that were written are read as the chart, with what a writer does not look at at zero
 pub record ChartReadBack (c : Chart) (out : List ℕ) (n : ℕ) : Type 0 where
   pub chart : readChartOf (take n (chartAfter c out)) ≡ record { refusal = 0; place = 0; chart = tidy c }
   pub short : n ≤ longestChart
+
+abbrev pub ChartReadUndoesWrite : Type 0
+ChartReadUndoesWrite = (c : Chart) (out : List ℕ) (n : ℕ) → writeChartOf c (length out) ≡ Wrote n → ChartReadBack c out n
 
 -- writing undoes reading: the chart that was read is taken by the writer in any buffer with room, and its bytes are the input
 pub record ChartWrittenBack (bytes : List ℕ) (c : Chart) (out : List ℕ) : Type 0 where
@@ -32,34 +31,34 @@ pub record ChartWrittenBack (bytes : List ℕ) (c : Chart) (out : List ℕ) : Ty
   pub buffer : chartAfter c out ≡ bytes ++ drop (length bytes) out
   pub short : length bytes ≤ longestChart
 
+abbrev pub ChartWriteUndoesRead : Type 0
+ChartWriteUndoesRead = (bytes : List ℕ) → Bytes bytes → readChartOf bytes .refusal ≡ 0 → (out : List ℕ) → length bytes ≤ length out
+    → ChartWrittenBack bytes (readChartOf bytes .chart) out
+
+-- an accepted chart has at most 1,065 bytes, and a refusal's place is at most that, however long the input
+abbrev pub ChartsShort : Type 0
+ChartsShort = (c : Chart) → chartRefusal c ≡ 0 → length (chartBytes c) ≤ longestChart
+
+abbrev pub PlacesNear : Type 0
+PlacesNear = (bytes : List ℕ) → Bytes bytes → readChartOf bytes .place ≤ longestChart
+
 -- a chart whose counts are within their limits has the number that the reader gives on its bytes
-abbrev pub SameRefusal : Chart → Type 0
-SameRefusal c = c .nodes .count ≤ mostNodes → c .links .count ≤ mostLinks → readChartOf (chartBytes c) .refusal ≡ chartRefusal c
+abbrev pub SameRefusal : Type 0
+SameRefusal = (c : Chart) → c .nodes .count ≤ mostNodes → c .links .count ≤ mostLinks → readChartOf (chartBytes c) .refusal ≡ chartRefusal c
 
 -- the numbers that the reader gives
 abbrev pub chartReaderRefusals : List ℕ
 chartReaderRefusals = 0 ∷ 21 ∷ 22 ∷ 23 ∷ 24 ∷ 25 ∷ 26 ∷ 27 ∷ 28 ∷ 29 ∷ 30 ∷ 31 ∷ []
 
+abbrev pub ReaderNumbers : Type 0
+ReaderNumbers = (bytes : List ℕ) → among (readChartOf bytes .refusal) chartReaderRefusals ≡ true
+
 -- the numbers that the writer gives. Not 21, 22, 25 and 31: it works from values, and puts the fields in order itself
 abbrev pub chartWriterRefusals : List ℕ
 chartWriterRefusals = 0 ∷ 10 ∷ 23 ∷ 24 ∷ 26 ∷ 27 ∷ 28 ∷ 29 ∷ 30 ∷ []
 
--- ---- what an accepted chart is
-
--- both ends of a link stand at nodes of the chart, and at two different ones
-pub record Joins (ns : Nodes) (ls : Links) (i : ℕ) : Type 0 where
-  pub a : hasNode ns (stationOf (linkAt ls i .a)) ≡ true
-  pub b : hasNode ns (stationOf (linkAt ls i .b)) ≡ true
-  pub apart : sameStation (stationOf (linkAt ls i .a)) (stationOf (linkAt ls i .b)) ≡ false
-
--- few enough, no node at the station of one before it, each end and both stations of the question written
-pub record Accepted (c : Chart) : Type 0 where
-  pub few-nodes : c .nodes .count ≤ mostNodes
-  pub few-links : c .links .count ≤ mostLinks
-  pub once : (i : ℕ) → i < c .nodes .count → hasNode (nodesBefore (c .nodes) i) (nodeAt (c .nodes) i .station) ≡ false
-  pub joins : (i : ℕ) → i < c .links .count → Joins (c .nodes) (c .links) i
-  pub from : hasNode (c .nodes) (c .from) ≡ true
-  pub to : hasNode (c .nodes) (c .to) ≡ true
+abbrev pub WriterNumbers : Type 0
+WriterNumbers = (c : Chart) (room : ℕ) → among (chartWriteRefusal c room) chartWriterRefusals ≡ true
 
 -- ---- labels are ink
 
@@ -83,5 +82,5 @@ pub record LabelsInRange (ns : Nodes) : Type 0 where
   pub bytes : (i : ℕ) → i < ns .count → anyBelow (strayByte (nodeAt ns i .label)) (nodeAt ns i .length) ≡ false
 
 -- no rule depends on labels: equal or empty ones make no difference to the refusal
-abbrev pub LabelsAreInk : Chart → Type 0
-LabelsAreInk c = LabelsInRange (c .nodes) → chartRefusal c ≡ chartRefusal (unlabelled c)
+abbrev pub LabelsAreInk : Type 0
+LabelsAreInk = (c : Chart) → LabelsInRange (c .nodes) → chartRefusal c ≡ chartRefusal (unlabelled c)

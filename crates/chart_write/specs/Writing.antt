@@ -1,5 +1,5 @@
 -- The chart's writer (document 01, "The chart"): the bytes of a chart given as values, and what becomes of the buffer that is lent.
-use Prim.Native.Nat.{ℕ}
+use Prim.Native.Nat.{ℕ, _+_, _*_}
 use mathlib.Core.List.{List, [], _∷_, _++_}
 use mathlib.Core.Bool.{Bool, cond}
 use lib.ListN.{length}
@@ -15,7 +15,7 @@ use Rattle.chart.specs.declared.Link.{Link}
 use Rattle.chart.specs.declared.Nodes.{Nodes}
 use Rattle.chart.specs.declared.Chart.{Chart}
 use Rattle.chart.specs.Values.{mostNodes, mostLinks, longestLabel, noNode, noLink, nodeAt, linkAt}
-use Rattle.chart_read.specs.Fields.{nodeTag, linkTag, questionTag, tagged}
+use Rattle.chart_read.specs.Fields.{nodeTag, linkTag, questionTag, longestNode, linkLength, questionLength, tagged}
 use Rattle.chart_refuse.specs.Refusal.{chartRefusal}
 
 -- a node's body: its station, and as many bytes of label as it says
@@ -43,6 +43,27 @@ linkField l = tagged linkTag (linkBody l)
 
 unfoldable pub questionField : Station → Station → List ℕ
 questionField from to = tagged questionTag (questionBody from to)
+
+-- the sizes of a field's tag and length, of a link's field and of the question's, and the largest of a node's
+abbrev pub headSize : ℕ
+headSize = 3
+
+abbrev pub linkFieldSize : ℕ
+linkFieldSize = headSize + linkLength
+
+abbrev pub questionFieldSize : ℕ
+questionFieldSize = headSize + questionLength
+
+abbrev pub longestNodeField : ℕ
+longestNodeField = headSize + longestNode
+
+-- the most bytes of nodes: 16 fields of 30 bytes, 480
+abbrev pub mostNodeBytes : ℕ
+mostNodeBytes = longestNodeField * mostNodes
+
+-- the longest chart: these, 48 links of 12 and a question of 9, 1,065
+abbrev pub longestChart : ℕ
+longestChart = mostNodeBytes + linkFieldSize * mostLinks + questionFieldSize
 
 -- a chart's bytes: its nodes, then its links, then the question
 unfoldable pub chartBytes : Chart → List ℕ

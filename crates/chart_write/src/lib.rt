@@ -13,6 +13,8 @@ ghost use Rattle.chart_write.specs.Writing.{chartBytes, chartWriteRefusa
 mod bytes;
 mod storing;
 
+pub use bytes::link_body;
+
 // Writes a chart into out, and gives the number of bytes written, or the refusal. What is unused is not looked at.
 pub fn write_chart(c: Chart, out: &mut [u8]) -> Written
     ensures { λ r. ⌜ r ≡ writeChartOf c (length (now (out .entry))) ⌝ }

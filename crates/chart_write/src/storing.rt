@@ -1,31 +1,54 @@
 // The bytes of a chart, stored field by field.
-use crate::bytes::link_field;
-use crate::bytes::node_head;
-use crate::bytes::question_field;
+use crate::bytes::link_body;
+use crate::bytes::question_body;
 use chart::Chart;
 use chart::ChartNode;
 use chart::Links;
 use chart::Nodes;
+use chart_read::LINK_LENGTH;
+use chart_read::LINK_TAG;
+use chart_read::NODE_TAG;
+use chart_read::QUESTION_LENGTH;
+use chart_read::QUESTION_TAG;
+use chart_read::SHORTEST_NODE;
 ghost use mathlib.Core.Path.{_≡_};
-ghost use Prim.Native.Nat.{_+_, _≤_};
+ghost use mathlib.Core.List.{_∷_};
+ghost use Prim.Native.Nat.{_+_, _*_, _≤_};
 ghost use lib.ListN.{length};
 ghost use lib.Seq.{sets};
 ghost use Rattle.lists.specs.Places.{elementAt, firsts, joined};
-ghost use Rattle.chart.specs.Values.{longestLabel, mostLinks, mostNodes, nodeAt, linkAt};
+ghost use Rattle.buffer.specs.Bytes.{wordBytes};
+ghost use Rattle.chart.specs.Values.{longestLabel, mostLinks, nodeAt, linkAt};
+ghost use Rattle.chart_read.specs.Fields.{longestNode, tagged};
 ghost use Rattle.chart_refuse.specs.Refusal.{chartRefusal};
-ghost use Rattle.chart_write.specs.Writing.{nodeField, linkField, chartBytes};
-ghost use Rattle.chart_write.specs.Contracts.{Short};
+ghost use Rattle.chart_write.specs.Writing.{nodeBody, nodeField, linkField, headSize, linkFieldSize, mostNodeBytes, chartBytes};
+ghost use Rattle.chart_write.specs.Contracts.{longestBody, Short};
+
+// The size of a field's tag and length, of a link's field and of the question's.
+const HEAD_SIZE: usize = 3;
+
+const LINK_FIELD_SIZE: usize = HEAD_SIZE + LINK_LENGTH;
+
+const QUESTION_FIELD_SIZE: usize = HEAD_SIZE + QUESTION_LENGTH;
+
+// The length of a node's body.
+fn node_length(n: ChartNode) -> usize
+    requires { ⌜ n .length ≤ longestLabel ⌝ }
+    ensures { λ r. ⌜ (r ≡ length (nodeBody n)) × (r ≤ longestNode) ⌝ }
+{
+    SHORTEST_NODE + n.length as usize
+}
 
 // The size of the nodes' fields.
 fn nodes_size(nodes: Nodes) -> usize
-    requires { ⌜ nodes .count ≤ mostNodes ⌝ }
-    ensures { λ r. ⌜ (r ≡ length (joined nodeField (nodeAt nodes) (nodes .count))) × (r ≤ 4176) ⌝ }
+    requires { ⌜ Short nodes ⌝ }
+    ensures { λ r. ⌜ (r ≡ length (joined nodeField (nodeAt nodes) (nodes .count))) × (r ≤ mostNodeBytes) ⌝ }
 {
     let mut size: usize = 0;
     let mut i: usize = 0;
     while i < nodes.count as usize {
         let n = nodes.items[i];
-        size += 6 + n.length as usize;
+        size += HEAD_SIZE + node_length(n);
         i += 1;
     }
     size
@@ -33,14 +56,33 @@ fn nodes_size(nodes: Nodes) -> usize
 
 // The size of a chart.
 pub fn chart_size(c: Chart) -> usize
-    requires { ⌜ c .nodes .count ≤ mostNodes ⌝ }
+    requires { ⌜ chartRefusal c ≡ 0 ⌝ }
     ensures { λ r. ⌜ r ≡ length (chartBytes c) ⌝ }
 {
     let nodes = c.nodes;
-    nodes_size(nodes) + 12 * (c.links.count as usize) + 9
+    nodes_size(nodes) + LINK_FIELD_SIZE * (c.links.count as usize) + QUESTION_FIELD_SIZE
 }
 
-// The first n bytes of a label at a place.
+// A field's tag and the length of its body, from an offset on.
+fn put_head(out: &mut [u8], at: usize, tag: u8, long: usize)
+    requires { ⌜ (at + headSize ≤ length (now out)) × (long ≤ longestBody) ⌝ }
+    ensures { λ _. ⌜ now (out .exit) ≡ sets (now (out .entry)) at (tag ∷ wordBytes long) ⌝ }
+{
+    out[at] = tag;
+    out[at + 1] = (long / 256) as u8;
+    out[at + 2] = (long % 256) as u8;
+}
+
+// The field of a body, from an offset on.
+fn put_field(out: &mut [u8], at: usize, tag: u8, body: &[u8])
+    requires { ⌜ (at + headSize + length (now body) ≤ length (now out)) × (length (now body) ≤ longestBody) ⌝ }
+    ensures { λ _. ⌜ now (out .exit) ≡ sets (now (out .entry)) at (tagged tag (now (body .entry))) ⌝ }
+{
+    put_head(out, at, tag, body.len());
+    buffer::put_all(out, at + HEAD_SIZE, body);
+}
+
+// The first n bytes of a label, from an offset on.
 fn put_label(out: &mut [u8], at: usize, label: [u8; 24], n: usize)
     requires { ⌜ n ≤ longestLabel ⌝ }
     ensures { λ _. ⌜ now (out .exit) ≡ sets (now (out .entry)) at (firsts (elementAt 0 label) n) ⌝ }
@@ -48,56 +90,59 @@ fn put_label(out: &mut [u8], at: usize, label: [u8; 24], n: usize)
     buffer::put_all(out, at, &label[..n]);
 }
 
-// A node's field at a place.
+// A node's field, from an offset on.
 fn put_node(out: &mut [u8], at: usize, n: ChartNode)
-    requires { ⌜ (n .length ≤ longestLabel) × (at ≤ 1065) ⌝ }
+    requires { ⌜ (n .length ≤ longestLabel) × (at + length (nodeField n) ≤ length (now out)) ⌝ }
     ensures { λ _. ⌜ now (out .exit) ≡ sets (now (out .entry)) at (nodeField n) ⌝ }
 {
-    let head = node_head(n);
-    buffer::put_all(out, at, &head);
+    put_head(out, at, NODE_TAG, node_length(n));
+    let body = at + HEAD_SIZE;
+    let s = address_bytes::station_bytes(n.station);
+    buffer::put_all(out, body, &s);
     let label = n.label;
-    put_label(out, at + 6, label, n.length as usize);
+    put_label(out, body + SHORTEST_NODE, label, n.length as usize);
 }
 
-// The nodes' fields at the start, and the place past them.
+// The nodes' fields at the start, and the offset past them.
 fn put_nodes(out: &mut [u8], nodes: Nodes) -> usize
-    requires { ⌜ Short nodes ⌝ }
-    ensures { λ r. ⌜ (r ≡ length (joined nodeField (nodeAt nodes) (nodes .count))) × (r ≤ 480) × (now (out .exit) ≡ sets (now (out .entry)) 0 (joined nodeField (nodeAt nodes) (nodes .count))) ⌝ }
+    requires { ⌜ Short nodes × (length (joined nodeField (nodeAt nodes) (nodes .count)) ≤ length (now out)) ⌝ }
+    ensures { λ r. ⌜ (r ≡ length (joined nodeField (nodeAt nodes) (nodes .count))) × (now (out .exit) ≡ sets (now (out .entry)) 0 (joined nodeField (nodeAt nodes) (nodes .count))) ⌝ }
 {
     let mut at: usize = 0;
     let mut i: usize = 0;
     while i < nodes.count as usize {
         let n = nodes.items[i];
         put_node(out, at, n);
-        at += 6 + n.length as usize;
+        at += HEAD_SIZE + node_length(n);
         i += 1;
     }
     at
 }
 
-// The links' fields from a place on.
+// The links' fields, from an offset on.
 fn put_links(out: &mut [u8], at: usize, links: Links)
-    requires { ⌜ (links .count ≤ mostLinks) × (at ≤ 480) ⌝ }
+    requires { ⌜ (links .count ≤ mostLinks) × (at + linkFieldSize * links .count ≤ length (now out)) ⌝ }
     ensures { λ _. ⌜ now (out .exit) ≡ sets (now (out .entry)) at (joined linkField (linkAt links) (links .count)) ⌝ }
 {
     let mut i: usize = 0;
     while i < links.count as usize {
         let l = links.items[i];
-        let b = link_field(l);
-        buffer::put_all(out, at + 12 * i, &b);
+        let b = link_body(l);
+        put_field(out, at + LINK_FIELD_SIZE * i, LINK_TAG, &b);
         i += 1;
     }
 }
 
 // A chart's bytes at the start.
 pub fn put_chart(c: Chart, out: &mut [u8])
-    requires { ⌜ chartRefusal c ≡ 0 ⌝ }
+    requires { ⌜ (chartRefusal c ≡ 0) × (length (chartBytes c) ≤ length (now out)) ⌝ }
     ensures { λ _. ⌜ now (out .exit) ≡ sets (now (out .entry)) 0 (chartBytes c) ⌝ }
 {
     let nodes = c.nodes;
     let links = c.links;
     let at = put_nodes(out, nodes);
     put_links(out, at, links);
-    let b = question_field(c.from, c.to);
-    buffer::put_all(out, at + 12 * (links.count as usize), &b);
+    let next = at + LINK_FIELD_SIZE * (links.count as usize);
+    let b = question_body(c.from, c.to);
+    put_field(out, next, QUESTION_TAG, &b);
 }

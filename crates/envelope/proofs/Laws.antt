@@ -21,7 +21,7 @@ use Rattle.address_bytes.specs.Packed.{addressKey}
 use Rattle.address_bytes.proofs.PackedLaws.{unpack-ranged, key-same}
 use Rattle.envelope.specs.declared.Fixed.{Fixed}
 use Rattle.envelope.specs.Frame.{destinationsOffset, lengthOf, countOf, sizeOf, fieldsOf, destinationAt, xorFrom, checkOf}
-use Rattle.envelope.specs.Refusal.{versionFor, outside, strayAt, outOfRange, wrongVersion, wholeRefusal, valuesRefusalBy, valuesRefusal, frameRefusal}
+use Rattle.envelope.specs.Refusal.{pageOfficer, versionFor, outside, strayAt, outOfRange, wrongVersion, wholeRefusal, valuesRefusalBy, valuesRefusal, frameRefusal}
 use Rattle.envelope.specs.Contracts.{keyAt}
 
 -- ---- the check character
@@ -220,7 +220,7 @@ unfolding wrongVersion
 version-false v k h = eqb-true _ _ (not-false _ h)
 
 pub version-small : (v k : ℕ) → wrongVersion v k ≡ false → v ≤ 2
-version-small v k h = rw (version-false v k h) (go (eqb k 3))
+version-small v k h = rw (version-false v k h) (go (eqb k pageOfficer))
   where
     go : (b : Bool) → cond b 2 1 ≤ 2
     go true = omega arith

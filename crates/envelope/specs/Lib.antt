@@ -1,3 +1,4 @@
 pub mod Frame
 pub mod Refusal
 pub mod Contracts
+pub mod Cases

@@ -34,6 +34,12 @@ after-refused : (e : Fixed) (d : ℕ → Address) (l out : List ℕ) → (frameW
 unfolding afterOf
 after-refused e d l out h = refused _ out _ h
 
+-- a stray ack byte is refused by some number
+pub stray-some : (x y : Bool) → refuse 4 x (refuse 5 y 6) ≡ 0 → ⊥
+stray-some true y h = omega arith
+stray-some false true h = omega arith
+stray-some false false h = omega arith
+
 module _ (b l out : List ℕ) where
   -- a refusal, whichever it is
   says-refused : {k : ℕ} → k ≡ pzWriteRefusal b (length l) (length out) → (k ≡ 0 → ⊥) → Says b l out k 0 out
@@ -43,11 +49,6 @@ module _ (b l out : List ℕ) where
   pub write-image-short : length b < 267 → Says b l out 10 0 out
   unfolding pzWriteRefusal
   write-image-short h = says-refused (rw (lt-ltb (length b) 267 h)) (λ z. omega arith)
-
-  stray-some : (x y : Bool) → refuse 4 x (refuse 5 y 6) ≡ 0 → ⊥
-  stray-some true y h = omega arith
-  stray-some false true h = omega arith
-  stray-some false false h = omega arith
 
   module _ (room : 267 ≤ length b) where
     pub write-stray : 1 < getD b 9 0 → {k : ℕ} → k ≡ strayAck (fieldsIn b .count) (length l) → Says b l out k 0 out

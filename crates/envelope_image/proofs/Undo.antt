@@ -10,10 +10,12 @@ use lib.Seq.{getD-append-add}
 use borrow.Author.Tests.{lt-ltb}
 use Rattle.lists.specs.Places.{joined, upTo}
 use Rattle.lists.proofs.Places.{joined-at, length-joined}
+use Rattle.buffer.specs.Bytes.{wordAt}
 use Rattle.address.specs.declared.Address.{Address}
 use Rattle.address.specs.Address.{zeroAddress}
 use Rattle.address_bytes.specs.Wide.{addressBytes}
-use Rattle.address_bytes.proofs.WideLaws.{length-address, word-back, address-back}
+use Rattle.buffer.proofs.Words.{word-back}
+use Rattle.address_bytes.proofs.WideLaws.{length-address, address-back}
 use Rattle.envelope.specs.declared.Fixed.{Fixed}
 use Rattle.envelope.specs.Frame.{withLength}
 use Rattle.envelope_image.specs.Image.{fieldBytes, envelopeBytes, fieldsIn, destinationHeld}
@@ -56,9 +58,17 @@ module _ (e : Fixed) (d : ℕ → Address) (rest : List ℕ) where
       (stands i h 3 (15 + 4 * i + 3) (omega arith) (omega arith))
       ∙ rw (lt-ltb i (e .count) c)
 
+  long-back : wordAt (envelopeBytes e d ++ rest) 5 ≡ e .length
+  unfolding envelopeBytes fieldBytes
+  long-back = word-back (e .length)
+
+  begins-back : wordAt (envelopeBytes e d ++ rest) 13 ≡ 9 + 3 * e .count
+  unfolding envelopeBytes fieldBytes
+  begins-back = word-back (9 + 3 * e .count)
+
   ack-back : getD (envelopeBytes e d ++ rest) 9 0 ≤ 1
   unfolding envelopeBytes fieldBytes
   ack-back = bit-small (e .ack)
 
 pub envelope-undo : EnvelopeUndo
-envelope-undo = record { size = size-back; fields = fields-back; destinations = destination-back; ack = ack-back }
+envelope-undo = record { size = size-back; fields = fields-back; destinations = destination-back; long = long-back; begins = begins-back; ack = ack-back }

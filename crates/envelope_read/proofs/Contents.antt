@@ -1,4 +1,4 @@
--- The theorem of the parts: contents-part.
+-- The theorem of the parts: the contents are exactly the frame's part.
 use Prim.Native.Nat.{ℕ, _+_, _-_}
 use mathlib.Core.Path.{_≡_, sym}
 use mathlib.Core.List.{List, [], _∷_, _++_, append-assoc}
@@ -11,7 +11,7 @@ use Rattle.envelope.specs.Frame.{lengthOf, countOf, contentsOffset, fieldsOf, c
 use Rattle.envelope.specs.Refusal.{frameRefusal}
 use Rattle.envelope_read.specs.Read.{readFrameOf}
 use Rattle.envelope_read.specs.Parts.{contentsOf}
-use Rattle.envelope_read.specs.Promises.{ContentsPart}
+use Rattle.envelope_read.specs.Promises.{ContentsStand}
 use Rattle.envelope.proofs.Laws.{accepted, last-byte}
 use Rattle.envelope_read.proofs.Laws.{read-envelope}
 use Rattle.envelope_read.proofs.PartsLaws.{contents-taken, contents-at-taken, contents-long}
@@ -23,8 +23,8 @@ part-stands f z =
     sym (rw (contents-taken f z, ← append-assoc, ← take-add (contentsOffset (countOf f)) (lengthOf f) f, ← n, ← last-byte f z) (take-append-drop (length f - 1) f))
 
 -- the contents of an accepted frame
-pub contents-part : (f : List ℕ) (e : Fixed) → readFrameOf f ≡ Envelope e → ContentsPart f e
+pub contents-stand : ContentsStand
 unfolding fieldsOf
-contents-part f e h =
+contents-stand f e h =
     let o = read-envelope f e (sym h) in
     rw (o .same) (record { long = contents-long f (o .none); begins = contents-at-taken f (o .none); stands = part-stands f (o .none) })

@@ -12,7 +12,7 @@ use Rattle.lists.specs.Places.{repeats}
 use Rattle.address.specs.Address.{sameAddress}
 use Rattle.envelope.specs.Frame.{destinationsOffset, lengthOf, sizeOf, fieldsOf, destinationAt, checkOf}
 use Rattle.envelope.specs.Refusal.{mostDestinations, lowestPriority, outside, wrongVersion, wholeRefusal, valuesRefusalBy, frameRefusal}
-use Rattle.envelope_read.specs.Promises.{readerRefusals}
+use Rattle.envelope_read.specs.Promises.{readerRefusals, ReaderNumbers}
 use Rattle.envelope.proofs.Laws.{length-le, never-out}
 
 -- the tests of 5 and 6 fail, so whatever the others say the number is one of the rest
@@ -28,7 +28,7 @@ by-tests false false false false false false true = refl
 by-tests false false false false false false false = refl
 
 -- the numbers that a reader of bytes gives
-pub reader-numbers : (f : List ℕ) → Bytes f → among (frameRefusal f) readerRefusals ≡ true
+pub reader-numbers : ReaderNumbers
 unfolding frameRefusal wholeRefusal valuesRefusalBy
 reader-numbers f b =
     rw (le-ltb 1023 (lengthOf f) (length-le f b), never-out f b)

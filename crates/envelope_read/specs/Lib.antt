@@ -1,3 +1,4 @@
 pub mod Read
 pub mod Promises
 pub mod Parts
+pub mod Cases

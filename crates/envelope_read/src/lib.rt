@@ -6,10 +6,12 @@ use frame::fields_of;
 use frame::keys_in;
 use frame::whole_refusal;
 ghost use mathlib.Core.Path.{_≡_};
+ghost use mathlib.Core.Bool.{false};
 ghost use Rattle.lists.specs.Refusals.{unlessRefused};
+ghost use Rattle.address.specs.Address.{addressOf};
 ghost use Rattle.envelope.specs.Frame.{fieldsOf};
 ghost use Rattle.envelope.specs.Refusal.{frameRefusal};
-ghost use Rattle.envelope_read.specs.Read.{zeroFields, readRefusal, readFields, readFrameOf};
+ghost use Rattle.envelope_read.specs.Read.{readRefusal, readFields, readFrameOf};
 
 mod addresses;
 mod frame;
@@ -33,7 +35,7 @@ pub struct Destinations {
 pub fn read_frame(frame: &[u8]) -> Read
     ensures { λ r. ⌜ r ≡ readFrameOf (now (frame .entry)) ⌝ }
     ensures refusal { λ r. ⌜ readRefusal r ≡ frameRefusal (now (frame .entry)) ⌝ }
-    ensures values { λ r. ⌜ readFields r ≡ unlessRefused (frameRefusal (now (frame .entry))) (fieldsOf (now (frame .entry))) zeroFields ⌝ }
+    ensures values { λ r. ⌜ readFields r ≡ unlessRefused (frameRefusal (now (frame .entry))) (fieldsOf (now (frame .entry))) (record { source = addressOf 0 0 0; count = 0; length = 0; priority = 0; version = 0; ack = false; seq = record { 0 = 0 }; kind = 0 }) ⌝ }
 {
     let broken = whole_refusal(frame);
     if broken != 0 {

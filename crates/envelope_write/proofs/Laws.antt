@@ -20,6 +20,7 @@ use Rattle.buffer.specs.declared.Written.{Written}
 use Rattle.buffer.specs.declared.Written.the-variants.{Wrote, Refused}
 use Rattle.envelope_write.specs.Refusal.{sizeFor, frameWriteRefusal}
 use Rattle.envelope_write.proofs.RefuseLaws.{ready, write-agree}
+use Rattle.envelope_write.specs.Promises.{FramesShort}
 use Rattle.envelope_write.specs.Write.{frameHead, frameMid, frameBody, frameBytes, writeFrameOf, afterOf}
 
 -- ---- the bytes of a frame
@@ -88,8 +89,8 @@ unfolding writeFrameOf
 wrote e d n room {k} h = wrote-size k (frameWriteRefusal e d n room) (sizeFor e n) h
 
 -- the largest frame: 63 destinations and L bytes of contents
-pub wrote-small : (e : Fixed) (d : ℕ → Address) (n room k : ℕ) → writeFrameOf e d n room ≡ Wrote k → k ≤ 1222
-wrote-small e d n room k h =
+pub frames-short : FramesShort
+frames-short e d n room k h =
     let w = wrote e d n room h in
     let r = ready e d n room (w .0) in
     omega (arith, w .1, r .counted, r .short)

@@ -23,14 +23,14 @@ use Rattle.envelope_read.proofs.Laws.{read-envelope}
 use Rattle.buffer.specs.declared.Written.the-variants.{Wrote}
 use Rattle.envelope_write.specs.Refusal.{sizeFor, frameWriteRefusal}
 use Rattle.envelope_write.specs.Write.{frameBytes, writeFrameOf, afterOf}
-use Rattle.envelope_write.specs.Promises.{FrameReadBack, FrameWrittenBack, writerRefusals}
+use Rattle.envelope_write.specs.Promises.{ReadUndoesWrite, WriteUndoesRead, writerRefusals, WriterNumbers}
 use Rattle.envelope_write.proofs.RefuseLaws.{write-taken}
 use Rattle.envelope_write.proofs.Laws.{length-bytes, wrote}
 use Rattle.envelope_write.proofs.ReadBack.{fields-read, contents-read, destinations-read}
 use Rattle.envelope_write.proofs.WriteBack.{taken-again, bytes-again}
 
 -- reading undoes writing, of whatever the writer takes
-pub read-undoes-write : (e : Fixed) (d : ℕ → Address) (l out : List ℕ) (n : ℕ) → writeFrameOf e d (length l) (length out) ≡ Wrote n → FrameReadBack e d l out n
+pub read-undoes-write : ReadUndoesWrite
 unfolding writeFrameOf afterOf
 read-undoes-write e d l out n h =
     let w = wrote e d (length l) (length out) h in
@@ -44,7 +44,7 @@ read-undoes-write e d l out n h =
     }
 
 -- writing undoes reading, of any frame of bytes that the reader takes
-pub write-undoes-read : (f : List ℕ) → Bytes f → (e : Fixed) → readFrameOf f ≡ Envelope e → (out : List ℕ) → length f ≤ length out → FrameWrittenBack f e out
+pub write-undoes-read : WriteUndoesRead
 unfolding writeFrameOf afterOf
 write-undoes-read f b e h out room =
     let o = read-envelope f e (sym h) in
@@ -70,7 +70,7 @@ by-tests false false false false false false true = refl
 by-tests false false false false false false false = refl
 
 -- the numbers that the writer gives
-pub writer-numbers : (e : Fixed) (d : ℕ → Address) (n room : ℕ) → among (frameWriteRefusal e d n room) writerRefusals ≡ true
+pub writer-numbers : WriterNumbers
 unfolding frameWriteRefusal valuesRefusalBy
 writer-numbers e d n room =
     by-tests

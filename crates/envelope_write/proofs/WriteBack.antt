@@ -10,6 +10,7 @@ use lib.Dec.{eqb}
 use lib.ListN.{length, getD, take, drop, length-drop, take-append-drop}
 use lib.Seq.{take-add, drop-cons}
 use Rattle.buffer.specs.Bytes.{Bytes, wordAt}
+use Rattle.buffer.proofs.Words.{word-high, word-low}
 use Rattle.lists.specs.Places.{elementAt, joined}
 use Rattle.lists.proofs.Places.{Agree, row-at}
 use Rattle.lists.proofs.Refusals.{or-pass}
@@ -51,13 +52,6 @@ bit-back zero h = refl
 bit-back (suc zero) h = refl
 bit-back (suc (suc x)) h = absurd (omega arith)
 
--- a word and its bytes
-word-high : (f : List ℕ) (i : ℕ) → getD f (i + 1) 0 < 256 → wordAt f i / 256 ≡ getD f i 0
-word-high f i h = omega arith
-
-word-low : (f : List ℕ) (i : ℕ) → getD f (i + 1) 0 < 256 → wordAt f i % 256 ≡ getD f (i + 1) 0
-word-low f i h = omega arith
-
 count-length : (f : List ℕ) → lengthOf f * 64 + countOf f ≡ wordAt f 3
 unfolding lengthOf countOf
 count-length f = omega arith
@@ -76,7 +70,7 @@ module _ (f : List ℕ) (b : Bytes f) (z : frameRefusal f ≡ 0) where
   head-same : frameHead (fieldsOf f) (length contents) ≡ take 5 f
   unfolding frameHead fieldsOf spelt
   head-same =
-      rw (length-contents, count-length f, word-high f 3 (b 4), word-low f 3 (b 4))
+      rw (length-contents, count-length f, word-high f b 3, word-low f b 3)
       (ap (λ (t : List ℕ). t ++ (getD f 3 0 ∷ getD f 4 0 ∷ [])) (undo .written f b 0)
       ∙ sym (spell f 0 5 (omega (arith, sized))))
 
@@ -86,7 +80,7 @@ module _ (f : List ℕ) (b : Bytes f) (z : frameRefusal f ≡ 0) where
       let t = protOffset (countOf f) in
       let p : getD f t 0 / 16 * 16 + getD f t 0 % 16 ≡ getD f t 0 = omega arith in
       let s : wordAt f (t + 1) / 2 * 2 + cond (eqb (wordAt f (t + 1) % 2) 1) 1 0 ≡ wordAt f (t + 1) = omega (arith, bit-back (wordAt f (t + 1) % 2) (omega arith)) in
-      rw (p, s, word-high f (t + 1) (b (t + 1 + 1)), word-low f (t + 1) (b (t + 1 + 1)))
+      rw (p, s, word-high f b (t + 1), word-low f b (t + 1))
       (ap (λ (k : ℕ). getD f t 0 ∷ getD f (t + 1) 0 ∷ getD f (t + 1 + 1) 0 ∷ getD f k 0 ∷ []) (omega arith)
       ∙ sym (spell f t 4 (omega (arith, sized))))
 

@@ -1,20 +1,12 @@
 -- The theorem of the ledger's calls on an image that can't be read: unreadable. Such an image stands for a ledger with a leg too many.
-use mathlib.Core.Path.{_≡_}
-use mathlib.Core.Bool.{false}
-use mathlib.Core.List.{List}
-use Prim.Native.Nat.{ℕ}
-use Rattle.ledger.specs.Rules.{obeys}
 use Rattle.table_image.specs.Table.{tableOf}
-use Rattle.ledger_image.specs.Ledger.{readableLedger, ledgerOf}
+use Rattle.ledger_image.specs.Ledger.{ledgerOf}
 use Rattle.ledger_laws.specs.Calls.{accepting, answering, ticking, clearing, refusalOf}
 use Rattle.ledger_laws.specs.Promises.{brokenRefusal}
 use Rattle.ledger_laws.proofs.Promises.{rules-broken}
 use Rattle.ledger_door.specs.Calls.{pzAnswer, pzTick, pzClear, pzAccept}
 use Rattle.ledger_door.specs.Promises.{Unreadable}
-
-broken : (b : List ℕ) → readableLedger b ≡ false → obeys (ledgerOf b) ≡ false
-unfolding ledgerOf obeys
-broken b h = rw h
+use Rattle.ledger_door.proofs.Images.{broken}
 
 pub unreadable : Unreadable
 unfolding pzAnswer pzTick pzClear pzAccept refusalOf brokenRefusal

@@ -19,7 +19,8 @@ use Rattle.ledger.specs.declared.Leg.{Leg}
 use Rattle.address_bytes.specs.Wide.{addressIn}
 use Rattle.ledger_image.specs.Leg.{standingBytes, standingOf, strayStanding, legBytes, legIn, strayLegIn}
 use Rattle.ledger_image.specs.Promises.{LegUndo}
-use Rattle.address_bytes.proofs.WideLaws.{word-back, address-back}
+use Rattle.buffer.proofs.Words.{word-back, word-high, word-low}
+use Rattle.address_bytes.proofs.WideLaws.{address-back}
 use Rattle.ledger_image.proofs.LegLaws.{length-leg}
 
 -- ---- stores
@@ -100,18 +101,12 @@ module _ (g : Leg) (b : List ℕ) (at : ℕ) (h : (k : ℕ) → k < 15 → getD 
 
 -- ---- and its bytes are those that it was read from
 
-high : (x y : ℕ) → x < 256 → y < 256 → (x * 256 + y) / 256 ≡ x
-high x y h k = omega arith
-
-low : (x y : ℕ) → y < 256 → (x * 256 + y) % 256 ≡ y
-low x y k = omega arith
-
 module _ (b : List ℕ) (bytes : Bytes b) (at : ℕ) where
   first : (j : ℕ) → wordAt b j / 256 ≡ getD b j 0
-  first j = high (getD b j 0) (getD b (j + 1) 0) (bytes j) (bytes (j + 1))
+  first j = word-high b bytes j
 
   second : (j : ℕ) → wordAt b j % 256 ≡ getD b (j + 1) 0
-  second j = low (getD b j 0) (getD b (j + 1) 0) (bytes (j + 1))
+  second j = word-low b bytes j
 
   leg-forth : strayLegIn b at ≡ false → legBytes (legIn b at) ≡ firsts (λ k. getD b (at + k) 0) 15
   unfolding firsts legIn legBytes strayLegIn

@@ -1,3 +1,4 @@
 pub mod Leg
 pub mod Ledger
 pub mod Promises
+pub mod Cases

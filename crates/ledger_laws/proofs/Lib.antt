@@ -2,3 +2,5 @@ pub mod Rules
 pub mod Places
 pub mod Keeps
 pub mod Promises
+pub mod Numbers
+pub mod Accepting

@@ -1,12 +1,12 @@
 -- What stands at each place of a ledger after a call that was not refused.
 use Prim.Native.Nat.{ℕ, suc, _+_, _-_, _<_, _≤_}
-use mathlib.Core.Path.{_≡_, ap, _∙_}
+use mathlib.Core.Path.{_≡_, refl, ap, _∙_}
 use mathlib.Core.Bool.{Bool, true, false, not, cond}
 use mathlib.Core.List.{List, _∷_, _++_}
 use native.Mathlib.Omega.{arith}
 use lib.Dec.{ltb}
-use lib.ListN.{length, getD, take, drop, List·getD-append}
-use lib.Seq.{getD-set-same, getD-set-other, getD-take, getD-drop, getD-at, getD-append-add, length-take-le}
+use lib.ListN.{length, getD, take, drop, List·getD-append, length-append, length-take, length-drop, length-map, length-set}
+use lib.Seq.{length-sets, getD-set-same, getD-set-other, getD-take, getD-drop, getD-at, getD-append-add, length-take-le}
 use borrow.Author.Tests.{ltb-true, not-false}
 use Rattle.lists.specs.Places.{anyBelow, elementAt, firsts}
 use Rattle.lists.specs.Lists.{without}
@@ -51,6 +51,10 @@ module _ (l : Ledger) (by to : Address) (seq : Seq) (reply : Reply) (whole : Who
   unfolding answerOf
   answer-after = taken _ _ z
 
+  pub answer-whole : Whole (answerOf l by to seq reply .ledger)
+  unfolding withLeg
+  answer-whole = rw answer-after (length-set (l .legs) k (settled reply (legAt l k)) ∙ whole)
+
   pub answer-at : legAt (answerOf l by to seq reply .ledger) k ≡ settled reply (legAt l k)
   unfolding withLeg legAt elementAt
   answer-at = rw answer-after (getD-set-same (l .legs) k (settled reply (legAt l k)) noLeg (omega (arith, answer-found .below, answer-rules .few, whole)))
@@ -69,6 +73,10 @@ module _ (l : Ledger) (whole : Whole l) (z : tickRefusal l ≡ 0) where
   pub tick-after : tickOf l .ledger ≡ tickedLedger l
   unfolding tickOf
   tick-after = taken _ _ z
+
+  pub tick-whole : Whole (tickOf l .ledger)
+  unfolding tickedLedger
+  tick-whole = rw tick-after (simp (length-append, length-map, length-take, length-drop) (omega (arith, tick-rules .few, whole)))
 
   pub tick-at : (i : ℕ) → i < l .count → legAt (tickOf l .ledger) i ≡ tickedLeg (legAt l i)
   unfolding tickedLedger legAt elementAt
@@ -107,6 +115,12 @@ module _ (l : Ledger) (place : ℕ) (whole : Whole l) (z : clearRefusal l place 
   left-at : (i : ℕ) → suc i < l .count → legAt (clearOf l place .ledger) i ≡ getD (without place counted) i noLeg
   unfolding closeUp legAt elementAt counted
   left-at i h = rw clear-after (List·getD-append (without place counted) (noLeg ∷ drop (l .count) (l .legs)) noLeg i (omega (arith, length-left)))
+
+  pub clear-whole : Whole (clearOf l place .ledger)
+  unfolding closeUp counted
+  clear-whole =
+      rw clear-after
+      (simp (length-append, length-drop) (omega (arith, length-left, clear-rules .few, whole)))
 
   pub clear-before : (i : ℕ) → i < place → legAt (clearOf l place .ledger) i ≡ legAt l i
   unfolding legAt elementAt counted
@@ -170,6 +184,10 @@ module _ (l : Ledger) (f : List ℕ) (arrival : Port) (t : Table) (ticks : ℕ) 
     unfolding acceptOf
     accept-after = taken _ _ z ∙ ap (λ (b : Bool). cond b (withLegs l (fieldsOf f) (destinationAt (drop destinationsOffset f)) arrival t ticks) l) asked
 
+    accept-asked-whole : Whole (acceptOf l f arrival t ticks .ledger)
+    unfolding withLegs
+    accept-asked-whole = rw accept-after (length-sets (l .legs) (l .count) (firsts new (fieldsOf f .count)) ∙ whole)
+
     pub accept-refusal : acceptOf l f arrival t ticks .added ≡ fieldsOf f .count
     unfolding acceptOf
     accept-refusal = taken _ _ z ∙ ap (λ (b : Bool). cond b (fieldsOf f .count) 0) asked
@@ -189,3 +207,10 @@ module _ (l : Ledger) (f : List ℕ) (arrival : Port) (t : Table) (ticks : ℕ) 
     pub accept-past : (i : ℕ) → l .count + fieldsOf f .count ≤ i → legAt (acceptOf l f arrival t ticks .ledger) i ≡ legAt l i
     unfolding withLegs legAt elementAt
     accept-past i h = rw accept-after (sets-after noLeg (firsts new (fieldsOf f .count)) (l .legs) (l .count) i (rw (length-firsts new (fieldsOf f .count)) h))
+
+  pub accept-whole : Whole (acceptOf l f arrival t ticks .ledger)
+  accept-whole = go (fieldsOf f .ack) refl
+    where
+      go : (b : Bool) → fieldsOf f .ack ≡ b → Whole (acceptOf l f arrival t ticks .ledger)
+      go true a = accept-asked-whole a
+      go false a = rw (accept-quiet-after a) whole

@@ -77,6 +77,12 @@ unfolding firstRefusalBelow
 refusal-agree d d' zero h = refl
 refusal-agree d d' (suc n) h = rw (refusal-agree d d' n (λ i l. h i (omega arith)), h n (omega arith))
 
+-- all numbers are 0, and so is the first other than 0
+pub refusals-none : (d : ℕ → ℕ) (n : ℕ) → ((i : ℕ) → i < n → d i ≡ 0) → firstRefusalBelow d n ≡ 0
+unfolding firstRefusalBelow
+refusals-none d zero h = refl
+refusals-none d (suc n) h = rw (refusals-none d n (λ i l. h i (omega arith)), h n (omega arith))
+
 -- the first of two refusals at a `return`
 pub or-stops : {k a : ℕ} (b : ℕ) → k ≡ a → (k ≡ 0 → ⊥) → k ≡ orElse a b
 or-stops {k} {a} b e h = e ∙ sym (or-refused a b (λ z. h (e ∙ z)))

@@ -5,3 +5,4 @@ pub mod Lists
 pub mod Refusals
 pub mod Chains
 pub mod Runs
+pub mod Given

@@ -8,7 +8,7 @@ use native.Mathlib.Nat.{add-zero, add-suc, mul-suc}
 use lib.ListN.{length, getD, take, set, length-append}
 use lib.Seq.{sets, take-suc, getD-set-same, getD-set-other}
 use Rattle.lists.specs.Places.{elementAt, firsts, joined}
-use Rattle.lists.proofs.Places.{joined-next, joined-agree}
+use Rattle.lists.proofs.Places.{length-joined, joined-next, joined-agree}
 use Rattle.lists.proofs.Stores.{sets-append}
 
 -- the first n elements of a list
@@ -21,8 +21,16 @@ module _ {A : Type 0} (f : A → List ℕ) (d : ℕ → A) where
   pub length-joined-next : (i : ℕ) → length (joined f d (i + 1)) ≡ length (joined f d i) + length (f (d i))
   length-joined-next i = rw (joined-next f d i) (length-append (joined f d i) (f (d i)))
 
-  pub joined-put : (l : List ℕ) (at k : ℕ) (i : ℕ) → k ≡ at + length (joined f d i) → sets (sets l at (joined f d i)) k (f (d i)) ≡ sets l at (joined f d (i + 1))
-  joined-put l at k i e = rw (joined-next f d i) (sets-append (joined f d i) l at (f (d i)) k e)
+  -- one more stored, in a list that has the first i of them
+  pub joined-put : (l m : List ℕ) (at k i : ℕ) {x : A} → x ≡ d i → k ≡ at + length (joined f d i) → m ≡ sets l at (joined f d i)
+      → sets m k (f x) ≡ sets l at (joined f d (i + 1))
+  joined-put l m at k i e q h =
+      ap₂ (λ (n : List ℕ) (y : A). sets n k (f y)) h e ∙ rw (joined-next f d i) (sets-append (joined f d i) l at (f (d i)) k q)
+
+  -- the same of things of w bytes each
+  pub joined-put-row : (w : ℕ) → ((x : A) → length (f x) ≡ w) → (l m : List ℕ) (at i : ℕ) {x : A} → x ≡ d i → m ≡ sets l at (joined f d i)
+      → sets m (at + w * i) (f x) ≡ sets l at (joined f d (i + 1))
+  joined-put-row w k l m at i e h = joined-put l m at (at + w * i) i e (ap (λ (n : ℕ). at + n) (sym (length-joined f w k d i))) h
 
   -- what stands after the first i of them: the next, and then some rest
   pub joined-rest : (i k : ℕ) → (rest : List ℕ) × (joined f d (i + k) ≡ joined f d i ++ rest)
@@ -37,6 +45,12 @@ module _ {A : Type 0} (f : A → List ℕ) (d : ℕ → A) where
       let r = joined-rest (i + 1) (n - (i + 1)) in
       let e : n ≡ i + 1 + (n - (i + 1)) = omega arith in
       (r .0, ap (joined f d) e ∙ r .1 ∙ ap (λ (x : List ℕ). x ++ r .0) (joined-next f d i) ∙ append-assoc (joined f d i) (f (d i)) (r .0))
+
+  -- the first i of them and the next are no longer than all
+  pub joined-within : (n i : ℕ) → i < n → length (joined f d i) + length (f (d i)) ≤ length (joined f d n)
+  joined-within n i h =
+      let r = joined-at-place n i h in
+      omega (arith, ap length (r .1), length-append (joined f d i) (f (d i) ++ r .0), length-append (f (d i)) (r .0))
 
   -- each at most w long
   pub joined-most : (w : ℕ) (n : ℕ) → ((i : ℕ) → i < n → length (f (d i)) ≤ w) → length (joined f d n) ≤ w * n

@@ -7,8 +7,8 @@ use native.Mathlib.Numerals.{add-one}
 use native.Mathlib.Nat.{zero-add, add-zero}
 use lib.ListN.{length, getD, take, drop, set, replicate, length-set, length-replicate, replicate-append-replicate, take-append-drop}
 use lib.Seq.{sets, sets-eq, length-sets, set-out, take-suc, take-at, length-take-le, getD-set-same, getD-set-other}
-use Rattle.lists.specs.Places.{firsts, joined}
-use Rattle.lists.proofs.Places.{length-firsts, length-joined, joined-next}
+use Rattle.lists.specs.Places.{firsts, joined, upTo}
+use Rattle.lists.proofs.Places.{length-firsts, length-joined, joined-next, joined-used}
 
 module _ {A : Type 0} where
   -- a run of stores after another is one run
@@ -46,6 +46,13 @@ pub joined-stored : {A : Type 0} (f : A → List ℕ) (k : ℕ) → ((x : A) →
     → sets (sets l at (joined f d i)) (at + k * i) (f (d i)) ≡ sets l at (joined f d (i + 1))
 joined-stored f k w l at d i =
     rw (joined-next f d i) (sets-append (joined f d i) l at (f (d i)) (at + k * i) (rw (length-joined f k w d i) refl))
+
+-- the first n of m such things, and zeros past them, where f gives zeros for z
+pub joined-zeros : {A : Type 0} (f : A → List ℕ) (w : ℕ) → ((x : A) → length (f x) ≡ w) → (z : A) → f z ≡ replicate w 0 → (l : List ℕ) (at : ℕ) (d : ℕ → A) (n m : ℕ) → n ≤ m
+    → sets (sets l at (joined f d n)) (at + w * n) (replicate (w * (m - n)) 0) ≡ sets l at (joined f (upTo n z d) m)
+joined-zeros f w k z q l at d n m h =
+    sets-append (joined f d n) l at (replicate (w * (m - n)) 0) (at + w * n) (rw (length-joined f w k d n) refl)
+    ∙ ap (sets l at) (sym (joined-used f w z q d n m h))
 
 -- values stored from a place on, one more
 pub firsts-stored : {A : Type 0} (l : List A) (at : ℕ) (d : ℕ → A) (i : ℕ) → set (sets l at (firsts d i)) (at + i) (d i) ≡ sets l at (firsts d (i + 1))

@@ -2,3 +2,4 @@ pub mod Places
 pub mod Lists
 pub mod Refusals
 pub mod Chains
+pub mod Cases

@@ -24,7 +24,7 @@ abbrev pub Gives : Told → ℕ → List ℕ → Type 0
 Gives t k o = (k ≡ oneNumber (t .answer)) × (o ≡ t .bytes)
 
 -- a chart that is read is right, and needs no second test
-right : (bytes : List ℕ) → Bytes bytes → readChartOf bytes .refusal ≡ 0 → chartRefusal (readChartOf bytes .chart) ≡ 0
+pub right : (bytes : List ℕ) → Bytes bytes → readChartOf bytes .refusal ≡ 0 → chartRefusal (readChartOf bytes .chart) ≡ 0
 right bytes b z = write-undoes-read bytes b z bytes (le-refl (length bytes)) .refusal
 
 module _ (bytes buf : List ℕ) {r : ChartRead} (g : r ≡ readChartOf bytes) where

@@ -22,3 +22,16 @@ pzFirst bytes buf = ifRead bytes buf (traceFirst (readChartOf bytes .chart) buf)
 
 unfoldable pub pzNext : List ℕ → List ℕ → ℕ → Told
 pzNext bytes buf n = ifRead bytes buf (traceNext (readChartOf bytes .chart) buf n)
+
+-- what comes back, and the buffer after the call
+abbrev pub pzFirstNumber : List ℕ → List ℕ → ℕ
+pzFirstNumber bytes buf = oneNumber (pzFirst bytes buf .answer)
+
+abbrev pub pzFirstBuffer : List ℕ → List ℕ → List ℕ
+pzFirstBuffer bytes buf = pzFirst bytes buf .bytes
+
+abbrev pub pzNextNumber : List ℕ → List ℕ → ℕ → ℕ
+pzNextNumber bytes buf n = oneNumber (pzNext bytes buf n .answer)
+
+abbrev pub pzNextBuffer : List ℕ → List ℕ → ℕ → List ℕ
+pzNextBuffer bytes buf n = pzNext bytes buf n .bytes

@@ -1,7 +1,7 @@
 // What C calls for the routes that a chart's bytes ask for (include/poztecameh.h): the first, and the next after one.
 use route_search::Traced;
 ghost use mathlib.Core.Path.{_≡_};
-ghost use Rattle.route_door.specs.Routes.{oneNumber, pzFirst, pzNext};
+ghost use Rattle.route_door.specs.Routes.{oneNumber, pzFirstNumber, pzFirstBuffer, pzNextNumber, pzNextBuffer};
 
 // Document 01's one number: the route's length, or the refusal.
 fn one_number(t: Traced) -> u8
@@ -16,7 +16,7 @@ fn one_number(t: Traced) -> u8
 // Writes the first route; the length is not looked at.
 #[no_mangle]
 pub extern "C" fn pz_first(chart: &[u8], route: &mut [u8], length: usize) -> u8
-    ensures { λ r. ⌜ (r ≡ oneNumber (pzFirst (now (chart .entry)) (now (route .entry)) .answer)) × (now (route .exit) ≡ pzFirst (now (chart .entry)) (now (route .entry)) .bytes) ⌝ }
+    ensures { λ r. ⌜ (r ≡ pzFirstNumber (now (chart .entry)) (now (route .entry))) × (now (route .exit) ≡ pzFirstBuffer (now (chart .entry)) (now (route .entry))) ⌝ }
 {
     let read = chart_read::read_chart(chart);
     let refusal = read.refusal;
@@ -30,7 +30,7 @@ pub extern "C" fn pz_first(chart: &[u8], route: &mut [u8], length: usize) -> u8
 // Writes the route after the one of this length.
 #[no_mangle]
 pub extern "C" fn pz_next(chart: &[u8], route: &mut [u8], length: usize) -> u8
-    ensures { λ r. ⌜ (r ≡ oneNumber (pzNext (now (chart .entry)) (now (route .entry)) length .answer)) × (now (route .exit) ≡ pzNext (now (chart .entry)) (now (route .entry)) length .bytes) ⌝ }
+    ensures { λ r. ⌜ (r ≡ pzNextNumber (now (chart .entry)) (now (route .entry)) length) × (now (route .exit) ≡ pzNextBuffer (now (chart .entry)) (now (route .entry)) length) ⌝ }
 {
     let read = chart_read::read_chart(chart);
     let refusal = read.refusal;

@@ -5,17 +5,17 @@ use mathlib.Core.List.{List}
 use native.Mathlib.Omega.{arith}
 use Rattle.chart.specs.declared.Chart.{Chart}
 use Rattle.chart_refuse.specs.Refusal.{chartRefusal}
-use Rattle.chart_write.specs.Promises.{Accepted}
-use Rattle.chart_write.proofs.Accepted.{accepted}
+use Rattle.chart_refuse.specs.Promises.{Accepted}
+use Rattle.chart_refuse.proofs.Accepted.{accepted}
 use Rattle.route_search.specs.Answers.{Told, firstRoute, nextRoute}
-use Rattle.route_search.specs.Contracts.{placesRefusal, routesOver, firstRefusalOver, nextRefusalOver, firstOver, nextOver}
+use Rattle.route_search.specs.Contracts.{placesRefusal, routesOver}
 use Rattle.route_search.proofs.Telling.{Promised, as-told, refusedTold, refusing, places-right}
 use Rattle.chart_net.specs.Net.{start, routesOf}
 use Rattle.chart_net.specs.Contracts.{stationPlaceFor, endsFor, passagesFor, arrayRoutes}
 use Rattle.chart_net.proofs.Places.{place-few}
 use Rattle.chart_net.proofs.Promises.{routes-kept, accepted-ends}
 use Rattle.route_trace.specs.Trace.{firstRefusalOf, nextRefusalOf, traceFirst, traceNext}
-use Rattle.route_trace.specs.Contracts.{firstKnown, nextKnown}
+use Rattle.route_trace.specs.Contracts.{firstKnownRefusal, nextKnownRefusal, firstKnown, nextKnown}
 
 module _ (c : Chart) where
   -- what first and next promise of an answer and the bytes after it
@@ -62,9 +62,9 @@ module _ (c : Chart) where
     kept = routes-kept c yes
 
     pub first-known : (buf : List ℕ) → firstKnown c buf ≡ traceFirst c buf
-    unfolding firstKnown firstOver firstRefusalOver traceFirst firstRefusalOf
+    unfolding firstKnown firstKnownRefusal arrayRoutes traceFirst firstRefusalOf
     first-known buf = rw (places-kept, ok, kept)
 
     pub next-known : (buf : List ℕ) (n : ℕ) → nextKnown c buf n ≡ traceNext c buf n
-    unfolding nextKnown nextOver nextRefusalOver traceNext nextRefusalOf
+    unfolding nextKnown nextKnownRefusal arrayRoutes traceNext nextRefusalOf
     next-known buf n = rw (places-kept, ok, kept)

@@ -2,37 +2,58 @@
 use Prim.Native.Nat.{ℕ, _<_, _≤_}
 use mathlib.Core.Path.{_≡_, refl, sym, ap, subst, _∙_}
 use mathlib.Core.Bool.{Bool, true, false}
-use mathlib.Core.List.{List, _∷_, List·Memᴰ, List·Memᴰ·head, List·Memᴰ·tail}
+use mathlib.Core.List.{List, [], _∷_, List·Memᴰ, List·Memᴰ·head, List·Memᴰ·tail}
 use native.Mathlib.Omega.{arith}
-use lib.ListN.{length, take}
-use lib.Seq.{sets, length-sets}
+use native.Mathlib.Decide.{decLt}
+use lib.ListN.{length, take, drop}
+use lib.Seq.{sets, length-sets, drop-at}
 use lib.Dec.{ltb}
-use borrow.Author.Tests.{ltb-true, ltb-false}
-use Rattle.lists.specs.Refusals.{unlessRefused}
-use Rattle.lists.proofs.Stores.{taken-front}
+use borrow.Author.Tests.{ltb-true, ltb-false, lt-ltb}
+use Rattle.lists.specs.Refusals.{among, unlessRefused}
+use Rattle.lists.proofs.Stores.{sets-front, taken-front}
 use Rattle.chart.specs.declared.Chart.{Chart}
 use Rattle.chart_refuse.specs.Refusal.{chartRefusal}
-use Rattle.chart_write.proofs.Accepted.{accepted}
+use Rattle.chart_refuse.proofs.Accepted.{accepted}
 use Rattle.route.specs.Route.{only}
-use Rattle.route.specs.All.{allRoutes, Finding, route, firstOf, nextOf}
+use Rattle.route.specs.All.{allRoutes, Finding, route, noMore, noRoute, firstOf, sameLinks, nextOf}
 use Rattle.route.specs.Promises.{Gives}
 use Rattle.route.specs.Promises as theory
 use Rattle.route.proofs.Promises.{short-routes}
 use Rattle.route.proofs.Next.{next-absent, gives-all}
 use Rattle.route.proofs.Order.{all-increasing, all-once}
 use Rattle.route.proofs.Laws.{all-are, all-here, all-sound}
-use Rattle.route_search.specs.declared.Traced.the-variants.{Refused}
-use Rattle.route_search.specs.Answers.{Told, told, findingRefusal, findingRoute}
+use Rattle.route_search.specs.declared.Traced.the-variants.{Route, Refused}
+use Rattle.route_search.specs.Answers.{Told, told, findingRefusal, findingRoute, firstRefusal, nextRefusal}
 use Rattle.route_search.proofs.Telling.{first-room, next-room, next-long}
 use Rattle.chart_net.specs.Net.{stationPlace, chartNet, start, routesOf, routesBetween}
 use Rattle.chart_net.specs.Promises.{IsRouteOf}
 use Rattle.chart_net.proofs.Promises.{accepted-ends}
 use Rattle.route_trace.specs.Trace.{firstRefusalOf, nextRefusalOf, traceFirst, traceNext}
-use Rattle.route_trace.specs.Promises.{GoesThrough, ended, another, RoutesTraced, EveryRouteTraced}
+use Rattle.route_trace.specs.Promises.{ListsRoutes, RoutesListed, GoesThrough, ended, another, RoutesTraced, EveryRouteTraced, TooShort, ShortBuffers}
+
+-- the first and the next of a list of routes are in it
+first-in : (l : List (List ℕ)) (r : List ℕ) → firstOf l ≡ route r → List·Memᴰ r l
+unfolding firstOf
+first-in [] r e = let z : _≡_ {A = ℕ} 0 1 = cc in absurd (omega arith)
+first-in (s ∷ l) r e = let q : s ≡ r = cc in List·Memᴰ·head (sym q)
+
+next-in : (l : List (List ℕ)) (q r : List ℕ) → nextOf l q ≡ route r → List·Memᴰ r l
+unfolding nextOf
+next-in [] q r e = let z : _≡_ {A = ℕ} 0 1 = cc in absurd (omega arith)
+next-in (s ∷ l) q r e = go (sameLinks s q) e (next-in l q r)
+  where
+    go : (b : Bool) → elim b [ true ↦ firstOf l | false ↦ nextOf l q ] ≡ route r → (nextOf l q ≡ route r → List·Memᴰ r l) → List·Memᴰ r (s ∷ l)
+    go true h later = List·Memᴰ·tail (first-in l r h)
+    go false h later = List·Memᴰ·tail (later h)
 
 -- what an answer tells on a buffer that is long enough
 abbrev given : Finding → List ℕ → Told
 given a buf = told (findingRefusal a) (findingRoute a) buf
+
+-- what is told is a route of at most 15 links, or one of these refusals and the buffer as it was
+pub data Tells (refusals buf : List ℕ) (t : Told) : Type 0 where
+  a-route : {n : ℕ} → t .answer ≡ Route n → n ≤ 15 → Tells refusals buf t
+  a-refusal : {k : ℕ} → t .answer ≡ Refused k → among k refusals ≡ true → t .bytes ≡ buf → Tells refusals buf t
 
 module _ (c : Chart) (ok : chartRefusal c ≡ 0) where
   taken-first : (buf : List ℕ) → 15 ≤ length buf → traceFirst c buf ≡ given (firstOf (routesOf c)) buf
@@ -68,7 +89,7 @@ module _ (c : Chart) (ok : chartRefusal c ≡ 0) where
       let m : 15 ≤ length b = rw length-sets h in
       let e : given (nextOf (routesOf c) r) b ≡ traceNext c b (length r) = sym (taken-next b (length r) m k ∙ ap (λ (x : List ℕ). given (nextOf (routesOf c) x) b) t) in
       let next = subst (λ (o : Told). GoesThrough c o l) e (calls g (λ q n. s q (List·Memᴰ·tail n)) b m) in
-      subst (λ (x : List ℕ). GoesThrough c (given (route r) buf) (x ∷ l)) t (another refl next)
+      subst (λ (x : List ℕ). GoesThrough c (given (route r) buf) (x ∷ l)) t (another refl k next)
 
   not-known : (b : List ℕ) (n : ℕ) → 15 ≤ length b → (IsRouteOf c (take n b) → ⊥) → traceNext c b n ≡ record { answer = Refused 41; bytes = b }
   unfolding routesOf routesBetween allRoutes told unlessRefused findingRefusal chartNet start
@@ -84,23 +105,93 @@ module _ (c : Chart) (ok : chartRefusal c ≡ 0) where
   unfolding chartNet start
   same-place e = ap (stationPlace (c .nodes)) e
 
-  traced : (buf : List ℕ) → 15 ≤ length buf → RoutesTraced c buf
+  listed : ListsRoutes c
   unfolding routesOf routesBetween allRoutes chartNet start
-  traced buf h =
+  listed =
       let G = chartNet c in
       let a = start c in
-      let are = all-are G (accepted-ends c (accepted c ok) .sound) a (only a) in
       record {
-        all = routesOf c;
-        given = subst (λ (o : Told). GoesThrough c o (routesOf c)) (sym (taken-first buf h)) (calls (gives-all G a (only a)) (λ r m. few r (are r .0 m)) buf h);
-        each = are;
+        each = all-are G (accepted-ends c (accepted c ok) .sound) a (only a);
         once = all-once G a (only a);
         ordered = all-increasing G a (only a);
         itself = λ e. all-here G a (only a) (same-place e);
         short = few;
-        others = not-known;
       }
+
+  -- a route of the list that is told leaves the bytes past it
+  past : (a : Finding) → ((r : List ℕ) → a ≡ route r → length r ≤ 15) → (buf : List ℕ) → 15 ≤ length buf → (n : ℕ) → given a buf .answer ≡ Route n → drop n (given a buf .bytes) ≡ drop n buf
+  unfolding told unlessRefused findingRefusal findingRoute
+  past (route r) s buf h n e =
+      let k : length r ≤ 15 = s r refl in
+      let m : n ≡ length r = cc in
+      rw (m, sets-front buf r (omega arith)) (drop-at r (drop (length r) buf) (length r) refl)
+  past noMore s buf h n e = let z : _≡_ {A = ℕ} 0 1 = cc in absurd (omega arith)
+  past noRoute s buf h n e = let z : _≡_ {A = ℕ} 0 1 = cc in absurd (omega arith)
+
+  -- the first and the next of the list are in it, and so have at most 15 links
+  first-few : (r : List ℕ) → firstOf (routesOf c) ≡ route r → length r ≤ 15
+  first-few r e = few r (listed .each r .0 (first-in (routesOf c) r e))
+
+  next-few : (q r : List ℕ) → nextOf (routesOf c) q ≡ route r → length r ≤ 15
+  next-few q r e = few r (listed .each r .0 (next-in (routesOf c) q r e))
+
+  traced : (buf : List ℕ) → 15 ≤ length buf → RoutesTraced c buf
+  unfolding routesOf routesBetween allRoutes chartNet start
+  traced buf h =
+      record {
+        given =
+            subst (λ (o : Told). GoesThrough c o (routesOf c)) (sym (taken-first buf h))
+            (calls (gives-all (chartNet c) (start c) (only (start c))) (λ r m. few r (listed .each r .0 m)) buf h);
+        others = λ n. not-known buf n h;
+        past-first = λ n e.
+            let t = taken-first buf h in
+            ap (λ (o : Told). drop n (o .bytes)) t ∙ past (firstOf (routesOf c)) first-few buf h n (sym (ap (λ (o : Told). o .answer) t) ∙ e);
+        past-next = λ m n e. past-next m n e (ltb 15 m) refl;
+      }
+    where
+      past-next : (m n : ℕ) → traceNext c buf m .answer ≡ Route n → (t : Bool) → ltb 15 m ≡ t → drop n (traceNext c buf m .bytes) ≡ drop n buf
+      past-next m n e true q = ap (λ (o : Told). drop n (o .bytes)) (taken-long buf m h (ltb-true 15 m q))
+      past-next m n e false q =
+          let t = taken-next buf m h (ltb-false 15 m q) in
+          ap (λ (o : Told). drop n (o .bytes)) t ∙ past (nextOf (routesOf c) (take m buf)) (next-few (take m buf)) buf h n (sym (ap (λ (o : Told). o .answer) t) ∙ e)
+
+  too-short : (buf : List ℕ) → length buf < 15 → TooShort c buf
+  unfolding traceFirst firstRefusalOf firstRefusal traceNext nextRefusalOf nextRefusal told unlessRefused
+  too-short buf h = record { first = rw (ok, lt-ltb (length buf) 15 h); next = λ n. rw (ok, lt-ltb (length buf) 15 h) }
+
+  -- what first and next tell
+  pub first-tells : (buf : List ℕ) → Tells (42 ∷ 43 ∷ []) buf (traceFirst c buf)
+  unfolding told unlessRefused findingRefusal findingRoute firstOf
+  first-tells buf = go (decLt (length buf) 15)
+    where
+      by-list : (l : List (List ℕ)) → ((r : List ℕ) → firstOf l ≡ route r → length r ≤ 15) → Tells (42 ∷ 43 ∷ []) buf (given (firstOf l) buf)
+      by-list [] s = a-refusal refl refl refl
+      by-list (r ∷ l) s = a-route refl (s r refl)
+
+      go : Dec (length buf < 15) → Tells (42 ∷ 43 ∷ []) buf (traceFirst c buf)
+      go (yes h) = subst (Tells (42 ∷ 43 ∷ []) buf) (sym (too-short buf h .first)) (a-refusal refl refl refl)
+      go (no h) = subst (Tells (42 ∷ 43 ∷ []) buf) (sym (taken-first buf (omega arith))) (by-list (routesOf c) first-few)
+
+  pub next-tells : (buf : List ℕ) (n : ℕ) → Tells (41 ∷ 42 ∷ 43 ∷ []) buf (traceNext c buf n)
+  unfolding told unlessRefused findingRefusal findingRoute
+  next-tells buf n = go (decLt (length buf) 15) (decLt 15 n)
+    where
+      by-finding : (a : Finding) → ((r : List ℕ) → a ≡ route r → length r ≤ 15) → Tells (41 ∷ 42 ∷ 43 ∷ []) buf (given a buf)
+      by-finding (route r) s = a-route refl (s r refl)
+      by-finding noMore s = a-refusal refl refl refl
+      by-finding noRoute s = a-refusal refl refl refl
+
+      go : Dec (length buf < 15) → Dec (15 < n) → Tells (41 ∷ 42 ∷ 43 ∷ []) buf (traceNext c buf n)
+      go (yes h) d = subst (Tells (41 ∷ 42 ∷ 43 ∷ []) buf) (sym (too-short buf h .next n)) (a-refusal refl refl refl)
+      go (no h) (yes k) = subst (Tells (41 ∷ 42 ∷ 43 ∷ []) buf) (sym (taken-long buf n (omega arith) k)) (a-refusal refl refl refl)
+      go (no h) (no k) = subst (Tells (41 ∷ 42 ∷ 43 ∷ []) buf) (sym (taken-next buf n (omega arith) (omega arith))) (by-finding (nextOf (routesOf c) (take n buf)) (next-few (take n buf)))
+
+pub routes-listed : RoutesListed
+routes-listed = listed
 
 -- demand 3
 pub every-route : EveryRouteTraced
-every-route c ok buf h = traced c ok buf h
+every-route = traced
+
+pub short-buffers : ShortBuffers
+short-buffers = too-short

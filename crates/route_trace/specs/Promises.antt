@@ -1,35 +1,52 @@
 -- Demand 3, of the calls themselves on one lent buffer (document 01, "Routes and their order"): the first route, then the next after each until told
--- that there are no more, are all routes, each once and in order. proofs/Promises.antt has the theorem.
-use Prim.Native.Nat.{ℕ, _≤_}
+-- that there are no more, are all routes, each once and in order. proofs/Promises.antt has the theorems.
+use Prim.Native.Nat.{ℕ, _<_, _≤_}
 use mathlib.Core.Path.{_≡_}
 use mathlib.Core.Logic.{_↔_}
 use mathlib.Core.List.{List, [], _∷_, List·Memᴰ}
-use lib.ListN.{length, take}
+use lib.ListN.{length, take, drop}
 use Rattle.chart.specs.declared.Chart.{Chart}
 use Rattle.chart_refuse.specs.Refusal.{chartRefusal}
 use Rattle.route.specs.Route.{Increasing, NoneTwice}
 use Rattle.route_search.specs.declared.Traced.the-variants.{Route, Refused}
 use Rattle.route_search.specs.Answers.{longestRoute, Told}
+use Rattle.chart_net.specs.Net.{routesOf}
 use Rattle.chart_net.specs.Promises.{IsRouteOf}
 use Rattle.route_trace.specs.Trace.{traceFirst, traceNext}
+
+-- the list of all routes has exactly those that the chart's question asks for, each once, in order; from a node to itself the empty one alone; none has more
+-- than 15 links
+pub record ListsRoutes (c : Chart) : Type 0 where
+  pub each : (r : List ℕ) → List·Memᴰ r (routesOf c) ↔ IsRouteOf c r
+  pub once : NoneTwice (routesOf c)
+  pub ordered : Increasing (routesOf c)
+  pub itself : c .from ≡ c .to → routesOf c ≡ [] ∷ []
+  pub short : (r : List ℕ) → IsRouteOf c r → length r ≤ longestRoute
+
+abbrev pub RoutesListed : Type 0
+RoutesListed = (c : Chart) → chartRefusal c ≡ 0 → ListsRoutes c
 
 -- what a call tells, and then each next one in the buffer as it was left: 43 ends it, else a route and what comes after it
 pub data GoesThrough (c : Chart) : Told → List (List ℕ) → Type 0 where
   ended : {t : Told} → t .answer ≡ Refused 43 → GoesThrough c t []
-  another : {t : Told} {n : ℕ} {l : List (List ℕ)} → t .answer ≡ Route n → GoesThrough c (traceNext c (t .bytes) n) l → GoesThrough c t (take n (t .bytes) ∷ l)
+  another : {t : Told} {n : ℕ} {l : List (List ℕ)} → t .answer ≡ Route n → n ≤ longestRoute → GoesThrough c (traceNext c (t .bytes) n) l
+      → GoesThrough c t (take n (t .bytes) ∷ l)
 
--- the calls on a buffer give every route, each once, in order; from a node to itself the empty one alone; a route has at most 15 links; what is no
--- route is 41 and leaves the buffer as it was
+-- the calls on a buffer go through that list; what is no route is 41 and leaves the buffer as it was; bytes past a route stay
 pub record RoutesTraced (c : Chart) (buf : List ℕ) : Type 0 where
-  pub all : List (List ℕ)
-  pub given : GoesThrough c (traceFirst c buf) all
-  pub each : (r : List ℕ) → List·Memᴰ r all ↔ IsRouteOf c r
-  pub once : NoneTwice all
-  pub ordered : Increasing all
-  pub itself : c .from ≡ c .to → all ≡ [] ∷ []
-  pub short : (r : List ℕ) → IsRouteOf c r → length r ≤ longestRoute
-  pub others : (b : List ℕ) (n : ℕ) → longestRoute ≤ length b → (IsRouteOf c (take n b) → ⊥) → traceNext c b n ≡ record { answer = Refused 41; bytes = b }
+  pub given : GoesThrough c (traceFirst c buf) (routesOf c)
+  pub others : (n : ℕ) → (IsRouteOf c (take n buf) → ⊥) → traceNext c buf n ≡ record { answer = Refused 41; bytes = buf }
+  pub past-first : (n : ℕ) → traceFirst c buf .answer ≡ Route n → drop n (traceFirst c buf .bytes) ≡ drop n buf
+  pub past-next : (m n : ℕ) → traceNext c buf m .answer ≡ Route n → drop n (traceNext c buf m .bytes) ≡ drop n buf
 
 -- so it is for every accepted chart and every buffer that is long enough
 abbrev pub EveryRouteTraced : Type 0
 EveryRouteTraced = (c : Chart) → chartRefusal c ≡ 0 → (buf : List ℕ) → longestRoute ≤ length buf → RoutesTraced c buf
+
+-- a shorter one is 42, also where the route would fit
+pub record TooShort (c : Chart) (buf : List ℕ) : Type 0 where
+  pub first : traceFirst c buf ≡ record { answer = Refused 42; bytes = buf }
+  pub next : (n : ℕ) → traceNext c buf n ≡ record { answer = Refused 42; bytes = buf }
+
+abbrev pub ShortBuffers : Type 0
+ShortBuffers = (c : Chart) → chartRefusal c ≡ 0 → (buf : List ℕ) → length buf < longestRoute → TooShort c buf

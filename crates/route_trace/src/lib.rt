@@ -13,12 +13,15 @@ ghost use Rattle.lists.specs.Refusals.{unlessRefused};
 ghost use Rattle.route_search.specs.Answers.{tracedRefusal, tracedLength, firstRoute, nextRoute};
 ghost use Rattle.chart_net.specs.Net.{routesOf};
 ghost use Rattle.route_trace.specs.Trace.{firstRefusalOf, nextRefusalOf, traceFirst, traceNext};
-ghost use Rattle.route_trace.specs.Contracts.{firstKnown, nextKnown};
+ghost use Rattle.route_trace.specs.Contracts.{firstKnownRefusal, nextKnownRefusal, firstKnown, nextKnown};
+ghost use Rattle.chart_net.specs.Contracts.{arrayRoutes};
 
 // The least route over what is kept of a chart, which is not tested: the trace of one that is known to be right.
 pub fn first_known(c: Chart, buf: &mut [u8]) -> Traced
     ensures { λ t. ⌜ t ≡ firstKnown c (now (buf .entry)) .answer ⌝ }
     ensures bytes { λ _. ⌜ now (buf .exit) ≡ firstKnown c (now (buf .entry)) .bytes ⌝ }
+    ensures refusal { λ t. ⌜ tracedRefusal t ≡ firstKnownRefusal c (now (buf .entry)) ⌝ }
+    ensures length { λ t. ⌜ tracedLength t ≡ unlessRefused (firstKnownRefusal c (now (buf .entry))) (length (firstRoute (arrayRoutes c))) 0 ⌝ }
 {
     let nodes = c.nodes;
     let links = c.links;
@@ -33,6 +36,8 @@ pub fn first_known(c: Chart, buf: &mut [u8]) -> Traced
 pub fn next_known(c: Chart, buf: &mut [u8], given: usize) -> Traced
     ensures { λ t. ⌜ t ≡ nextKnown c (now (buf .entry)) given .answer ⌝ }
     ensures bytes { λ _. ⌜ now (buf .exit) ≡ nextKnown c (now (buf .entry)) given .bytes ⌝ }
+    ensures refusal { λ t. ⌜ tracedRefusal t ≡ nextKnownRefusal c (now (buf .entry)) given ⌝ }
+    ensures length { λ t. ⌜ tracedLength t ≡ unlessRefused (nextKnownRefusal c (now (buf .entry)) given) (length (nextRoute (arrayRoutes c) (now (buf .entry)) given)) 0 ⌝ }
 {
     let nodes = c.nodes;
     let links = c.links;

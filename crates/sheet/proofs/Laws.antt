@@ -19,8 +19,8 @@ use Rattle.chart.specs.declared.Chart.{Chart}
 use Rattle.chart_read.specs.declared.ChartRead.{ChartRead}
 use Rattle.chart_read.specs.Reading.{readChartOf}
 use Rattle.chart_refuse.specs.Refusal.{chartRefusal}
-use Rattle.chart_write.specs.Promises.{Accepted}
-use Rattle.chart_write.proofs.Accepted.{accepted}
+use Rattle.chart_refuse.specs.Promises.{Accepted}
+use Rattle.chart_refuse.proofs.Accepted.{accepted}
 use Rattle.chart_write.proofs.Promises.{write-undoes-read}
 use Rattle.route_search.proofs.Telling.{places-right}
 use Rattle.chart_net.specs.Net.{start, routesOf}

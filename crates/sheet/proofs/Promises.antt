@@ -24,7 +24,7 @@ use Rattle.chart_read.specs.declared.ChartRead.{ChartRead}
 use Rattle.chart_read.specs.Reading.{readChartOf}
 use Rattle.chart_refuse.specs.Refusal.{chartRefusal}
 use Rattle.chart_refuse.proofs.Laws.{Passed, passed, node-of, link-of}
-use Rattle.chart_write.proofs.Accepted.{accepted}
+use Rattle.chart_refuse.proofs.Accepted.{accepted}
 use Rattle.route.specs.Route.{only}
 use Rattle.route.specs.All.{allRoutes}
 use Rattle.route.proofs.Laws.{all-sound}
@@ -38,7 +38,7 @@ use Rattle.sheet_lines.proofs.Lengths.{node-long, link-long, question-long}
 use Rattle.sheet_routes.specs.RouteLines.{routeLine, listText}
 use Rattle.sheet_routes.proofs.Lengths.{route-long, list-long}
 use Rattle.sheet.specs.Sheet.{longLine, place, lineAt, chartText, readText, sheetText, sheetRefusal, writeSheetOf}
-use Rattle.sheet.specs.Promises.{SheetShort}
+use Rattle.sheet.specs.Promises.{SheetShort, WrittenShort}
 use Rattle.sheet.proofs.Laws.{read-accepted}
 
 node-station : (n : ChartNode) → nodeInRange n ≡ true → stationInRange (n .station) ≡ true
@@ -118,7 +118,7 @@ sheet-short bytes s = go (ltb 4096 (length bytes))
     go false = read-long (readChartOf bytes) (read-accepted bytes s (readChartOf bytes) refl)
 
 -- so is what a writing gives
-pub wrote-short : (bytes : List ℕ) → Bytes bytes → (room n : ℕ) → writeSheetOf bytes room ≡ Wrote n → n ≤ 47129
+pub wrote-short : WrittenShort
 unfolding writeSheetOf
 wrote-short bytes s room n e =
     let h : length (sheetText bytes) ≤ 47129 = sheet-short bytes s in

@@ -1,7 +1,6 @@
 -- The lines of the printed sheet but its routes (document 01, "The printed sheet"), as ASCII codes; each ends with one line feed.
 -- `a ++ b ++ c` is `(a ++ b) ++ c`: what was laid is joined in the same order.
 use Prim.Native.Nat.{ℕ}
-use mathlib.Core.Path.{_≡_, refl}
 use mathlib.Core.Bool.{Bool, true, false}
 use mathlib.Core.List.{List, [], _∷_, _++_}
 use lib.ListN.{take}
@@ -10,9 +9,8 @@ use Rattle.address.specs.declared.Address.{Address}
 use Rattle.address.specs.Address.{stationOf}
 use Rattle.chart.specs.declared.ChartNode.{ChartNode}
 use Rattle.chart.specs.declared.Link.{Link}
-use Rattle.chart.specs.Sample.{nodeS, linkS, hill}
 use Rattle.text.specs.Marks.{ascii, blank, slash, lf}
-use Rattle.text.specs.Decimal.{digits, decimal}
+use Rattle.text.specs.Decimal.{decimal}
 
 -- brigade/node
 unfoldable pub stationText : Station → List ℕ
@@ -51,13 +49,3 @@ countsLine nodes links = ascii "nodes " ++ decimal nodes ++ ascii " links " ++ d
 -- a refused chart: the number and the place
 unfoldable pub refusedLine : ℕ → ℕ → List ℕ
 refusedLine number place = ascii "refused " ++ decimal number ++ ascii " at " ++ decimal place ++ lf
-
--- a label, an empty one, and a link that is off
-pub record Samples : Type 0 where
-  pub labelled : nodeLine 0 (nodeS 20 hill) ≡ ascii "0 9/20 Hill\n"
-  pub unlabelled : nodeLine 15 (nodeS 1023 []) ≡ ascii "15 9/1023\n"
-  pub off : linkLine 47 (linkS 1 4 30 63 false) ≡ ascii "47 9/1/4 9/30/63 off\n"
-
-pub samples : Samples
-unfolding digits stationText endText labelText nodeLine linkLine
-samples = record { labelled = refl; unlabelled = refl; off = refl }

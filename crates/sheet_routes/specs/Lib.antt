@@ -1,2 +1,3 @@
 pub mod RouteLines
 pub mod Contracts
+pub mod Cases

@@ -1,9 +1,8 @@
 -- The route lines of the printed sheet (document 01, "The printed sheet"), as ASCII codes.
 use Prim.Native.Nat.{ℕ, zero, suc}
-use mathlib.Core.Path.{_≡_, refl}
 use mathlib.Core.List.{List, [], _∷_, _++_}
 use Rattle.text.specs.Marks.{ascii, blank, lf}
-use Rattle.text.specs.Decimal.{digits, decimal}
+use Rattle.text.specs.Decimal.{decimal}
 
 -- link places, each after a blank
 unfoldable pub placesText : List ℕ → List ℕ
@@ -27,15 +26,3 @@ unfoldable pub listText : ℕ → List (List ℕ) → List ℕ
 listText most [] = endLine
 listText zero (r ∷ rs) = moreLine
 listText (suc most) (r ∷ rs) = routeLine r ++ listText most rs
-
--- a route, the empty one; and two routes, of which one, two and three lines are allowed
-pub record Samples : Type 0 where
-  pub three : routeLine (0 ∷ 4 ∷ 3 ∷ []) ≡ ascii "0 4 3\n"
-  pub none : routeLine [] ≡ ascii "-\n"
-  pub goes-on : listText 1 ((0 ∷ []) ∷ (47 ∷ []) ∷ []) ≡ ascii "0\nmore\n"
-  pub just : listText 2 ((0 ∷ []) ∷ (47 ∷ []) ∷ []) ≡ ascii "0\n47\nend\n"
-  pub ends : listText 3 ((0 ∷ []) ∷ (47 ∷ []) ∷ []) ≡ ascii "0\n47\nend\n"
-
-pub samples : Samples
-unfolding digits placesText routeLine listText
-samples = record { three = refl; none = refl; goes-on = refl; just = refl; ends = refl }

@@ -1,6 +1,7 @@
 -- Laws of the definitions of specs/: one for each way that the code returns, and what the choice says of itself.
 use Prim.Native.Nat.{ℕ, _<_, _≤_}
 use mathlib.Core.Path.{_≡_, refl, sym, ap, _∙_}
+use lib.Dec.{leb}
 use mathlib.Core.Bool.{Bool, true, false, not, _||_, cond}
 use lib.ListN.{length, getD}
 use borrow.Author.Tests.{leb-true, le-leb, lt-leb}
@@ -15,7 +16,7 @@ use Rattle.table.specs.declared.Table.{Table}
 use Rattle.table.specs.declared.Choice.{Choice}
 use Rattle.table.specs.declared.Choice.the-variants.{Local, Out, Refused}
 use Rattle.table.specs.Table.{noEntry, entryAt, isOwn, qualifies, qualifiesAt, hasRoute, outPort, outChoice, entryInRange, strayEntry, tableInRange, callInRange, chooseOf, chooseRefusal, choosePort, choiceRefusal, choiceLocal, choicePort}
-use Rattle.table.specs.Contracts.{choiceFor}
+use Rattle.table.specs.Contracts.{choiceFor, choiceForRefusal}
 
 -- ---- the way out
 
@@ -132,4 +133,15 @@ pub choose-told : (t : Table) (d : Address) (arrival : Port) {r : Choice} → r 
 unfolding chooseOf outChoice chooseRefusal choosePort
 choose-told t d arrival e =
     let b = by-tests (tableInRange t) (callInRange d arrival) (isOwn t d) (hasRoute t d arrival) (d .port) (outPort t d arrival) in
+    (e, (ap choiceRefusal e ∙ b .0, (ap choiceLocal e ∙ b .1, ap choicePort e ∙ b .2)))
+
+-- all that `choice_for` promises, from its answer
+pub tested-told : (t : Table) (d : Address) (arrival : Port) {r : Choice} → r ≡ choiceFor t d arrival
+    → (r ≡ choiceFor t d arrival)
+    × ((choiceRefusal r ≡ choiceForRefusal t d arrival)
+    × ((choiceLocal r ≡ unlessRefused (choiceForRefusal t d arrival) (isOwn t d) false)
+    × (choicePort r ≡ unlessRefused (choiceForRefusal t d arrival) (choosePort t d arrival) 0)))
+unfolding choiceFor outChoice choiceForRefusal choosePort
+tested-told t d arrival e =
+    let b = by-tests (leb (t .count) 32) true (isOwn t d) (hasRoute t d arrival) (d .port) (outPort t d arrival) in
     (e, (ap choiceRefusal e ∙ b .0, (ap choiceLocal e ∙ b .1, ap choicePort e ∙ b .2)))

@@ -17,7 +17,7 @@ use Rattle.table.specs.declared.Entry.{Entry}
 use Rattle.table.specs.declared.Choice.{Choice}
 use Rattle.table.specs.declared.Choice.the-variants.{Local, Out, Refused}
 use Rattle.table.specs.Table.{mostEntries, entryAt, isOwn, qualifies, qualifiesAt, hasRoute, outPort, outChoice, entryInRange, strayEntry, tableInRange, callInRange, chooseOf, choiceRefusal, choiceLocal}
-use Rattle.table.specs.Promises.{Taken, Qualifies, First, NextRoute, ChoiceAnswers, chooseRefusals, Alike, PastCount}
+use Rattle.table.specs.Promises.{Taken, Qualifies, First, NextRoute, NextRoutes, ChoiceAnswers, EveryChoice, chooseRefusals, ChooseNumbers, Alike, PastCount, EntriesPastCount}
 use Rattle.table.proofs.Laws.{out-found, out-none, chosen-50, chosen-51, chosen-here, chosen-out, choiceBy}
 
 -- ---- the next route
@@ -81,8 +81,8 @@ module _ (t : Table) (d : Address) (arrival : Port) (taken : Taken t d arrival) 
   choice-first k f = choice-out ∙ out-found t d arrival k (first-tested t d arrival k f)
 
   -- demand 2, routes
-  pub next-route : NextRoute t d arrival
-  next-route = record {
+  leaves-first : NextRoute t d arrival
+  leaves-first = record {
     leaves = λ p. (by-first p (anyBelow qualifying (t .count)) refl, λ w. choice-first (w .0) (w .1) ∙ ap Out (sym (w .2)));
     refused = (
       λ h k q.
@@ -101,6 +101,9 @@ module _ (t : Table) (d : Address) (arrival : Port) (taken : Taken t d arrival) 
           let f = first-placed t d arrival _ (first-found qualifying (t .count) e) in
           (firstBelow qualifying (t .count), f, out-same (sym h ∙ choice-first _ f))
       by-first p false e h = absurd (out-refused (sym h ∙ choice-out ∙ out-none t d arrival e))
+
+pub next-route : NextRoutes
+next-route = leaves-first
 
 -- ---- when each answer is given
 
@@ -132,7 +135,7 @@ module _ (t : Table) (d : Address) (arrival : Port) where
   passed h = record { table = and-left (tableInRange t) _ h; call = and-right (tableInRange t) _ h }
 
   -- when each answer is given
-  pub answers : ChoiceAnswers t d arrival
+  answers : ChoiceAnswers t d arrival
   unfolding hasRoute
   answers = record {
     refused-50 = (λ h. no-not _ (sym (told .is-50) ∙ refused-by 50 h), chosen-50 t d arrival);
@@ -159,9 +162,12 @@ module _ (t : Table) (d : Address) (arrival : Port) where
     );
   }
 
-  -- the numbers that a choice gives
-  pub choice-numbers : among (choiceRefusal (chooseOf t d arrival)) chooseRefusals ≡ true
-  choice-numbers = told .numbered
+pub every-choice : EveryChoice
+every-choice = answers
+
+-- the numbers that a choice gives
+pub choose-numbers : ChooseNumbers
+choose-numbers t d arrival = told t d arrival .numbered
 
 -- ---- entries past the count
 
@@ -208,5 +214,8 @@ module _ (t t' : Table) (a : Alike t t') where
     same-choice = λ i. cond (not (same-table i)) (Refused 50) (cond (not (callInRange d arrival)) (Refused 51) (cond (same-own i) (Local (d .port)) (same-out i)))
 
   -- entries past the count make no difference
-  pub past-count : PastCount t t'
-  past-count = record { table = same-table; choice = same-choice }
+  past : PastCount t t'
+  past = record { table = same-table; choice = same-choice }
+
+pub entries-past-count : EntriesPastCount
+entries-past-count = past

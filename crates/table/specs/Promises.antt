@@ -3,15 +3,13 @@ use Prim.Native.Nat.{ℕ, _<_}
 use mathlib.Core.Path.{_≡_}
 use mathlib.Core.Bool.{true, false}
 use mathlib.Core.List.{List, [], _∷_}
+use mathlib.Core.Logic.{_↔_}
+use Rattle.lists.specs.Refusals.{among}
 use Rattle.address.specs.declared.Port.{Port}
 use Rattle.address.specs.declared.Address.{Address}
 use Rattle.table.specs.declared.Table.{Table}
 use Rattle.table.specs.declared.Choice.the-variants.{Local, Out, Refused}
-use Rattle.table.specs.Table.{entryAt, isOwn, covers, hasRoute, tableInRange, callInRange, chooseOf}
-
--- one holds exactly if the other does
-abbrev pub Exactly : Type 0 → Type 0 → Type 0
-Exactly A B = (A → B) × (B → A)
+use Rattle.table.specs.Table.{entryAt, isOwn, covers, hasRoute, tableInRange, callInRange, chooseOf, choiceRefusal}
 
 module _ (t : Table) (d : Address) (arrival : Port) where
   -- the call is neither 50 nor 51
@@ -33,19 +31,28 @@ module _ (t : Table) (d : Address) (arrival : Port) where
 
   -- demand 2, routes: a message for another node leaves by the first entry that qualifies, and is refused a route exactly if none does
   pub record NextRoute : Type 0 where
-    pub leaves : (p : Port) → Exactly (chooseOf t d arrival ≡ Out p) ((k : ℕ) × First k × (p ≡ entryAt t k .port))
-    pub refused : Exactly (chooseOf t d arrival ≡ Refused 52) ((k : ℕ) → Qualifies k → ⊥)
+    pub leaves : (p : Port) → (chooseOf t d arrival ≡ Out p) ↔ ((k : ℕ) × First k × (p ≡ entryAt t k .port))
+    pub refused : (chooseOf t d arrival ≡ Refused 52) ↔ ((k : ℕ) → Qualifies k → ⊥)
 
   -- when each other answer is given, of any call: the refusals in their order; local for the own station, from any arrival port in range
   pub record ChoiceAnswers : Type 0 where
-    pub refused-50 : Exactly (chooseOf t d arrival ≡ Refused 50) (tableInRange t ≡ false)
-    pub refused-51 : Exactly (chooseOf t d arrival ≡ Refused 51) ((tableInRange t ≡ true) × (callInRange d arrival ≡ false))
-    pub refused-52 : Exactly (chooseOf t d arrival ≡ Refused 52) (Taken × (isOwn t d ≡ false) × (hasRoute t d arrival ≡ false))
-    pub local : (p : Port) → Exactly (chooseOf t d arrival ≡ Local p) (Taken × (isOwn t d ≡ true) × (p ≡ d .port))
+    pub refused-50 : (chooseOf t d arrival ≡ Refused 50) ↔ (tableInRange t ≡ false)
+    pub refused-51 : (chooseOf t d arrival ≡ Refused 51) ↔ ((tableInRange t ≡ true) × (callInRange d arrival ≡ false))
+    pub refused-52 : (chooseOf t d arrival ≡ Refused 52) ↔ (Taken × (isOwn t d ≡ false) × (hasRoute t d arrival ≡ false))
+    pub local : (p : Port) → (chooseOf t d arrival ≡ Local p) ↔ (Taken × (isOwn t d ≡ true) × (p ≡ d .port))
+
+abbrev pub NextRoutes : Type 0
+NextRoutes = (t : Table) (d : Address) (arrival : Port) → Taken t d arrival → isOwn t d ≡ false → NextRoute t d arrival
+
+abbrev pub EveryChoice : Type 0
+EveryChoice = (t : Table) (d : Address) (arrival : Port) → ChoiceAnswers t d arrival
 
 -- the numbers that a choice gives
 abbrev pub chooseRefusals : List ℕ
 chooseRefusals = 0 ∷ 50 ∷ 51 ∷ 52 ∷ []
+
+abbrev pub ChooseNumbers : Type 0
+ChooseNumbers = (t : Table) (d : Address) (arrival : Port) → among (choiceRefusal (chooseOf t d arrival)) chooseRefusals ≡ true
 
 -- two tables that differ only past the count
 pub record Alike (t t' : Table) : Type 0 where
@@ -58,3 +65,6 @@ pub record Alike (t t' : Table) : Type 0 where
 pub record PastCount (t t' : Table) : Type 0 where
   pub table : tableInRange t ≡ tableInRange t'
   pub choice : (d : Address) (arrival : Port) → chooseOf t d arrival ≡ chooseOf t' d arrival
+
+abbrev pub EntriesPastCount : Type 0
+EntriesPastCount = (t t' : Table) → Alike t t' → PastCount t t'

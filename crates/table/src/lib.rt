@@ -9,7 +9,7 @@ ghost use mathlib.Core.Path.{_≡_};
 ghost use mathlib.Core.Bool.{false};
 ghost use Rattle.lists.specs.Refusals.{unlessRefused};
 ghost use Rattle.table.specs.Table.{ownStation, isOwn, chooseOf, choiceRefusal, choiceLocal, choicePort, chooseRefusal, choosePort};
-ghost use Rattle.table.specs.Contracts.{choiceFor};
+ghost use Rattle.table.specs.Contracts.{choiceFor, choiceForRefusal};
 
 mod entries;
 mod ranges;
@@ -59,6 +59,9 @@ fn own_station(t: Table) -> Station
 // The choice for a table, a destination and a port that were found in range: local, or out, or 52. Only a count past the last place is refused here too, with 50.
 pub fn choice_for(table: Table, destination: Address, arrival: Port) -> Choice
     ensures { λ r. ⌜ r ≡ choiceFor table destination arrival ⌝ }
+    ensures refusal { λ r. ⌜ choiceRefusal r ≡ choiceForRefusal table destination arrival ⌝ }
+    ensures local { λ r. ⌜ choiceLocal r ≡ unlessRefused (choiceForRefusal table destination arrival) (isOwn table destination) false ⌝ }
+    ensures port { λ r. ⌜ choicePort r ≡ unlessRefused (choiceForRefusal table destination arrival) (choosePort table destination arrival) 0 ⌝ }
 {
     if MOST_ENTRIES < table.count {
         return Choice::Refused(50);

@@ -1,3 +1,4 @@
 pub mod Contracts
 pub mod Marks
 pub mod Decimal
+pub mod Cases

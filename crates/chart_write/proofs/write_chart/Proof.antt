@@ -1,7 +1,6 @@
 -- `chart_write::write_chart` meets its contract: a refusal leaves the buffer, else the chart's bytes are stored from its start on.
 use mathlib.Core.Path.{sym, ap, _∙_}
 use Rattle.buffer.specs.declared.Written.the-variants.{Wrote}
-use Rattle.chart_refuse.proofs.Laws.{passed}
 use Rattle.chart_write.proofs.Laws.{write-told, write-refused, write-short, write-wrote}
 use borrow.Author.Needs.{needs}
 use native.Mathlib.Omega.{arith}
@@ -19,7 +18,7 @@ returns c =
     (t .answer, (w .0, (w .1, t .buffer)))
 
 chart-size-requires : tie.Need-chart-size-requires
-chart-size-requires c κs = passed (c .before .before .before .args .c) (sym (c .before .chart-refusal .ensures) ∙ c .if1 .left) .few-nodes
+chart-size-requires c κs = sym (c .before .chart-refusal .ensures) ∙ c .if1 .left
 
 returns-2 : tie.Need-returns-2
 returns-2 c =
@@ -29,7 +28,7 @@ returns-2 c =
     (t .answer, (w .0, (w .1, t .buffer)))
 
 put-chart-requires : tie.Need-put-chart-requires
-put-chart-requires c κs = sym (c .before .before .before .before .chart-refusal .ensures) ∙ c .before .before .before .if1 .left
+put-chart-requires c κs = (sym (c .before .before .before .before .chart-refusal .ensures) ∙ c .before .before .before .if1 .left, omega (arith, c .before .before .chart-size .ensures))
 
 same-length : tie.Need-same-length
 same-length c = search needs

@@ -3,7 +3,7 @@ use Prim.Native.Nat.{ℕ}
 use mathlib.Core.Path.{_≡_, sym, _∙_, ap}
 use native.Mathlib.Omega.{arith}
 use Rattle.buffer.specs.Writing.{writtenRefusal, writtenCount}
-use Rattle.envelope_write.proofs.Laws.{wrote-small}
+use Rattle.envelope_write.proofs.Laws.{frames-short}
 use Rattle.envelope_door.proofs.Writing.{Says, write-image-short, write-stray, write-done}
 use borrow.Author.Needs.{needs}
 use Rattle.envelope_door.proofs.pz_write.Statement.{statement}
@@ -45,7 +45,7 @@ enum-known-n c = search needs
 
 cast-written : tie.Need-cast-written
 cast-written c =
-    let s = wrote-small _ _ _ _ (c .before .n .given .0 .0) (sym (c .before .before .before .before .before .write-frame .ensures .0) ∙ c .before .n .given .1) in
+    let s = frames-short _ _ _ _ (c .before .n .given .0 .0) (sym (c .before .before .before .before .before .write-frame .ensures .0) ∙ c .before .n .given .1) in
     record { fits = omega arith }
 
 same-length : tie.Need-same-length

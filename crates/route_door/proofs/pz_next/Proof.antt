@@ -20,7 +20,7 @@ same-length : tie.Need-same-length
 same-length c = search needs
 
 returns-2 : tie.Need-returns-2
-returns-2 c = next-read (c .before .before .before .before .before .before .before .before .before .before .args .chart .now) (c .before .before .before .before .before .before .before .before .before .before .args .route .now) (c .before .before .before .before .before .before .before .read-chart .ensures) (λ i. c .before .before .before .before .before .before .before .before .before .shared-slice-known .given i .fits) (c .before .before .before .before .before .before .before .before .before .before .args .length) (c .before .before .before .before .before .before .if1 .left) (c .one-number .ensures) (c .before .before .before .next-known .ensures .0) (c .before .before .before .next-known .ensures .1)
+returns-2 c = next-read (c .before .before .before .before .before .before .before .before .before .before .args .chart .now) (c .before .before .before .before .before .before .before .before .before .before .args .route .now) (c .before .before .before .before .before .before .before .read-chart .ensures) (λ i. c .before .before .before .before .before .before .before .before .before .shared-slice-known .given i .fits) (c .before .before .before .before .before .before .before .before .before .before .args .length) (c .before .before .before .before .before .before .if1 .left) (c .one-number .ensures) (c .before .before .before .next-known .ensures .0) (c .before .before .before .next-known .ensures .1 .0)
 
 pub pz-next-spec : {M : Type 1} → statement M
 pz-next-spec =

@@ -29,7 +29,7 @@ returns-2 c =
     let ok : chartRefusal (a .c) ≡ 0 = sym (c .before .before .before .before .before .chart-refusal .ensures) ∙ c .before .before .before .before .if1 .left in
     let e = first-known (a .c) ok (a .buf .now) in
     let h = c .before .before .first-known .ensures in
-    carried (firstRoute (routesOf (a .c))) (a .buf .now) (h .0 ∙ ap (λ (t : Told). t .answer) e) (h .1 ∙ ap (λ (t : Told). t .bytes) e) (first-self (a .c) (a .buf .now))
+    carried (firstRoute (routesOf (a .c))) (a .buf .now) (h .0 ∙ ap (λ (t : Told). t .answer) e) (h .1 .0 ∙ ap (λ (t : Told). t .bytes) e) (first-self (a .c) (a .buf .now))
 
 pub first-spec : {M : Type 1} → statement M
 first-spec =

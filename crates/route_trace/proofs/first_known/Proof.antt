@@ -1,10 +1,11 @@
 -- `route_trace::first_known` meets its contract: the search over what is kept.
-use mathlib.Core.Path.{_≡_, ap, _∙_}
+use mathlib.Core.Path.{_≡_, refl, ap, _∙_}
 use borrow.Author.Needs.{needs}
-use Rattle.route_search.specs.Answers.{Told}
-use Rattle.route_search.specs.Contracts.{firstOver}
-use Rattle.chart_net.specs.Contracts.{stationPlaceFor, endsFor, passagesFor}
-use Rattle.route_trace.specs.Contracts.{firstKnown}
+use Rattle.route_search.specs.Answers.{Told, firstRoute}
+use Rattle.route_search.specs.Contracts.{routesOver, firstRefusalOver, firstOver}
+use Rattle.route_search.proofs.Telling.{as-told, carried}
+use Rattle.chart_net.specs.Contracts.{stationPlaceFor, endsFor, passagesFor, arrayRoutes}
+use Rattle.route_trace.specs.Contracts.{firstKnownRefusal, firstKnown}
 use Rattle.route_trace.proofs.first_known.Statement.{statement}
 use Rattle.route_trace.proofs.first_known.Tie as tie
 
@@ -30,7 +31,7 @@ same-length : tie.Need-same-length
 same-length c = search needs
 
 returns : tie.Need-returns
-unfolding firstKnown
+unfolding firstOver firstRefusalOver firstKnown firstKnownRefusal arrayRoutes
 returns c =
     let a = c .before .before .before .before .before .before .before .before .before .before .before .before .args in
     let n = a .c .nodes in
@@ -41,7 +42,8 @@ returns c =
     let to : c .before .before .before .before .before .place-for2 .result ≡ stationPlaceFor n (a .c .to) = c .before .before .before .before .before .place-for2 .ensures in
     let e : firstOver (c .before .before .before .before .before .before .before .before .ends-for .result) (c .before .before .before .before .before .before .before .passages-for .result) (l .count) (c .before .before .before .before .before .before .place-for .result) (c .before .before .before .before .before .place-for2 .result) (a .buf .now) ≡ firstKnown (a .c) (a .buf .now) = λ j. firstOver (ends j) (ways j) (l .count) (from j) (to j) (a .buf .now) in
     let h = c .before .before .first-route .ensures in
-    (h .0 ∙ ap (λ (t : Told). t .answer) e, h .1 .0 ∙ ap (λ (t : Told). t .bytes) e)
+    let t = as-told (firstKnownRefusal (a .c) (a .buf .now)) (firstRoute (arrayRoutes (a .c))) (a .buf .now) (firstKnown (a .c) (a .buf .now)) refl in
+    carried (firstRoute (arrayRoutes (a .c))) (a .buf .now) (h .0 ∙ ap (λ (t : Told). t .answer) e) (h .1 .0 ∙ ap (λ (t : Told). t .bytes) e) t
 
 pub first-known-spec : {M : Type 1} → statement M
 first-known-spec =

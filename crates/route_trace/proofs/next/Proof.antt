@@ -29,7 +29,7 @@ returns-2 c =
     let ok : chartRefusal (a .c) ≡ 0 = sym (c .before .before .before .before .before .chart-refusal .ensures) ∙ c .before .before .before .before .if1 .left in
     let e = next-known (a .c) ok (a .buf .now) (a .given) in
     let h = c .before .before .next-known .ensures in
-    carried (nextRoute (routesOf (a .c)) (a .buf .now) (a .given)) (a .buf .now) (h .0 ∙ ap (λ (t : Told). t .answer) e) (h .1 ∙ ap (λ (t : Told). t .bytes) e) (next-self (a .c) (a .buf .now) (a .given))
+    carried (nextRoute (routesOf (a .c)) (a .buf .now) (a .given)) (a .buf .now) (h .0 ∙ ap (λ (t : Told). t .answer) e) (h .1 .0 ∙ ap (λ (t : Told). t .bytes) e) (next-self (a .c) (a .buf .now) (a .given))
 
 pub next-spec : {M : Type 1} → statement M
 next-spec =

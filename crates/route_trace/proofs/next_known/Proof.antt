@@ -1,10 +1,11 @@
 -- `route_trace::next_known` meets its contract: the search over what is kept.
-use mathlib.Core.Path.{_≡_, ap, _∙_}
+use mathlib.Core.Path.{_≡_, refl, ap, _∙_}
 use borrow.Author.Needs.{needs}
-use Rattle.route_search.specs.Answers.{Told}
-use Rattle.route_search.specs.Contracts.{nextOver}
-use Rattle.chart_net.specs.Contracts.{stationPlaceFor, endsFor, passagesFor}
-use Rattle.route_trace.specs.Contracts.{nextKnown}
+use Rattle.route_search.specs.Answers.{Told, nextRoute}
+use Rattle.route_search.specs.Contracts.{routesOver, nextRefusalOver, nextOver}
+use Rattle.route_search.proofs.Telling.{as-told, carried}
+use Rattle.chart_net.specs.Contracts.{stationPlaceFor, endsFor, passagesFor, arrayRoutes}
+use Rattle.route_trace.specs.Contracts.{nextKnownRefusal, nextKnown}
 use Rattle.route_trace.proofs.next_known.Statement.{statement}
 use Rattle.route_trace.proofs.next_known.Tie as tie
 
@@ -30,7 +31,7 @@ same-length : tie.Need-same-length
 same-length c = search needs
 
 returns : tie.Need-returns
-unfolding nextKnown
+unfolding nextOver nextRefusalOver nextKnown nextKnownRefusal arrayRoutes
 returns c =
     let a = c .before .before .before .before .before .before .before .before .before .before .before .before .args in
     let n = a .c .nodes in
@@ -41,7 +42,8 @@ returns c =
     let to : c .before .before .before .before .before .place-for2 .result ≡ stationPlaceFor n (a .c .to) = c .before .before .before .before .before .place-for2 .ensures in
     let e : nextOver (c .before .before .before .before .before .before .before .before .ends-for .result) (c .before .before .before .before .before .before .before .passages-for .result) (l .count) (c .before .before .before .before .before .before .place-for .result) (c .before .before .before .before .before .place-for2 .result) (a .buf .now) (a .given) ≡ nextKnown (a .c) (a .buf .now) (a .given) = λ j. nextOver (ends j) (ways j) (l .count) (from j) (to j) (a .buf .now) (a .given) in
     let h = c .before .before .next-route .ensures in
-    (h .0 ∙ ap (λ (t : Told). t .answer) e, h .1 .0 ∙ ap (λ (t : Told). t .bytes) e)
+    let t = as-told (nextKnownRefusal (a .c) (a .buf .now) (a .given)) (nextRoute (arrayRoutes (a .c)) (a .buf .now) (a .given)) (a .buf .now) (nextKnown (a .c) (a .buf .now) (a .given)) refl in
+    carried (nextRoute (arrayRoutes (a .c)) (a .buf .now) (a .given)) (a .buf .now) (h .0 ∙ ap (λ (t : Told). t .answer) e) (h .1 .0 ∙ ap (λ (t : Told). t .bytes) e) t
 
 pub next-known-spec : {M : Type 1} → statement M
 next-known-spec =

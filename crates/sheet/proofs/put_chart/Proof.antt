@@ -1,6 +1,6 @@
 -- `sheet::put_chart` meets its contract: what the calls lay is joined in the sheet's order.
 use borrow.Author.Needs.{needs}
-use Rattle.chart_write.proofs.Accepted.{accepted}
+use Rattle.chart_refuse.proofs.Accepted.{accepted}
 use Rattle.text.proofs.Joining.{_▸_}
 use Rattle.sheet.specs.Sheet.{chartText}
 use Rattle.sheet.proofs.put_chart.Statement.{statement}

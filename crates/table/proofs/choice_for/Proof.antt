@@ -2,13 +2,13 @@
 use mathlib.Core.Path.{_≡_, sym, _∙_}
 use Rattle.lists.proofs.Bools.{told-true, told-false}
 use Rattle.table.specs.Table.{isOwn}
-use Rattle.table.proofs.Laws.{tested-50, tested-here, tested-by}
+use Rattle.table.proofs.Laws.{tested-50, tested-here, tested-by, tested-told}
 use borrow.Author.Needs.{needs}
 use Rattle.table.proofs.choice_for.Statement.{statement}
 use Rattle.table.proofs.choice_for.Tie as tie
 
 returns : tie.Need-returns
-returns c = sym (tested-50 _ _ _ (c .if1 .taken))
+returns c = tested-told _ _ _ (sym (tested-50 _ _ _ (c .if1 .taken)))
 
 own-station-requires : tie.Need-own-station-requires
 own-station-requires c κs = search needs
@@ -25,13 +25,13 @@ unfolding isOwn
 own c = rw (c .same-station .ensures, c .before .station-of .ensures, c .before .before .own-station .ensures)
 
 returns-2 : tie.Need-returns-2
-returns-2 c = sym (tested-here _ _ _ (c .before .before .before .before .before .if1 .left) (told-true (own (c .before .before)) (c .before .if2 .taken)))
+returns-2 c = tested-told _ _ _ (sym (tested-here _ _ _ (c .before .before .before .before .before .if1 .left) (told-true (own (c .before .before)) (c .before .if2 .taken))))
 
 out-choice-requires : tie.Need-out-choice-requires
 out-choice-requires c κs = c .before .before .before .before .if1 .left
 
 returns-3 : tie.Need-returns-3
-returns-3 c = c .out-choice .ensures ∙ sym (tested-by _ _ _ (c .before .before .before .before .before .if1 .left) (told-false (own (c .before .before)) (c .before .if2 .left)))
+returns-3 c = tested-told _ _ _ (c .out-choice .ensures ∙ sym (tested-by _ _ _ (c .before .before .before .before .before .if1 .left) (told-false (own (c .before .before)) (c .before .if2 .left))))
 
 pub choice-for-spec : {M : Type 1} → statement M
 choice-for-spec =

@@ -33,7 +33,7 @@ choice-for-requires c κs = search needs
 returns-3 : tie.Need-returns-3
 returns-3 c =
     let table = told-yes (c .before .before .before .before .before .table-in-range .ensures) (c .before .before .before .before .if1 .left) in
-    choose-told _ _ _ (c .choice-for .ensures ∙ sym (chosen-tested _ _ _ table (told-yes (call (c .before .before)) (c .before .if2 .left))))
+    choose-told _ _ _ (c .choice-for .ensures .0 ∙ sym (chosen-tested _ _ _ table (told-yes (call (c .before .before)) (c .before .if2 .left))))
 
 pub choose-spec : {M : Type 1} → statement M
 choose-spec =

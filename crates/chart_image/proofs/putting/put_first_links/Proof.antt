@@ -1,25 +1,31 @@
 -- `chart_image::put_first_links` meets its contract. The loop's invariant: the links before i are stored.
-use Prim.Native.Nat.{_≤_, _-_}
-use mathlib.Core.Path.{_≡_, sym, ap, refl, _∙_}
+use Prim.Native.Nat.{_+_, _*_, _≤_, _-_}
+use mathlib.Core.Path.{_≡_, refl, ap, _∙_}
 use native.Mathlib.Omega.{arith}
-use lib.ListN.{length}
+use lib.ListN.{length, length-map}
 use lib.Seq.{sets}
-use Rattle.lists.specs.Places.{joined, elementAt}
+use Rattle.lists.specs.Places.{joined}
 use Rattle.lists.proofs.Places.{joined-none}
-use Rattle.lists.proofs.Stores.{joined-stored}
+use Rattle.lists.proofs.Runs.{joined-put-row}
 use Rattle.chart.specs.Values.{linkAt}
+use Rattle.chart.proofs.Laws.{link-read}
 use Rattle.chart_write.specs.Writing.{linkBody}
-use Rattle.chart_image.proofs.Laws.{length-link}
+use Rattle.chart_write.proofs.Laws.{length-link-body}
+use Rattle.chart_image.specs.Image.{linksStart, linkSize}
 use borrow.Author.Needs.{needs}
 use Rattle.chart_image.proofs.putting.put_first_links.Statement.{statement}
 use Rattle.chart_image.proofs.putting.put_first_links.Tie as tie
 
 abbrev Inv-loop : tie.InvT-loop
 Inv-loop image₀ n links i₀ image i =
-    (i ≤ n) × (image ≡ sets image₀ 456 (joined linkBody (linkAt links) i)) × (length image ≡ length image₀)
+    (i ≤ n) × (image ≡ sets image₀ linksStart (joined linkBody (linkAt links) i)) × (length image ≡ length image₀)
 
 abbrev μ-loop : tie.MeasureT-loop
 μ-loop image₀ n links i₀ image i = n - i
+
+-- the array has its length
+whole : (s : tie.Start Inv-loop μ-loop) → length (s .args .t2 .items) ≡ 48
+whole s = simp length-map at (s .good .1 .0 .1 .1 .1 .0 .1 .0 .1)
 
 loop-holds : tie.Need-loop-holds Inv-loop μ-loop
 loop-holds c = (omega arith, rw joined-none, refl)
@@ -30,8 +36,8 @@ mul-l c = search needs
 element-copy-out-l : tie.Need-element-copy-out-l Inv-loop μ-loop
 element-copy-out-l c = search needs
 
-link-image-requires : tie.Need-link-image-requires Inv-loop μ-loop
-link-image-requires c κs = search needs
+link-body-requires : tie.Need-link-body-requires Inv-loop μ-loop
+link-body-requires c κs = search needs
 
 mul-put-all : tie.Need-mul-put-all Inv-loop μ-loop
 mul-put-all c = search needs
@@ -40,7 +46,7 @@ add-put-all : tie.Need-add-put-all Inv-loop μ-loop
 add-put-all c = search needs
 
 slice-aggregate-put-all : tie.Need-slice-aggregate-put-all Inv-loop μ-loop
-slice-aggregate-put-all c = sym (ap length (c .before .before .link-image .ensures) ∙ length-link _)
+slice-aggregate-put-all c = search needs
 
 put-all-requires : tie.Need-put-all-requires Inv-loop μ-loop
 put-all-requires c κs = search needs
@@ -52,10 +58,14 @@ loop-less : tie.Need-loop-less Inv-loop μ-loop
 loop-less c = search needs
 
 loop-again : tie.Need-loop-again Inv-loop μ-loop
-unfolding linkAt elementAt
 loop-again c =
-    let l = c .before .before .before .before .before .before .before .before .loop in
-    (omega arith, rw (c .before .before .put-all .ensures, l .inv .1, c .before .before .before .before .before .link-image .ensures) (joined-stored linkBody 9 length-link (c .before .before .before .before .before .before .before .before .before .before .args .image .now) 456 (linkAt (c .before .before .before .before .before .before .before .before .before .before .args .t2)) (l .i)), omega (arith, c .before .before .put-all .kept .0, l .inv .2))
+    let s = (c .before .before .before .before .before .before .before .before .before .before) in
+    let l = c .before .before .before .before .before .before .before .before .loop in (
+      omega arith,
+      c .before .before .put-all .ensures ∙ ap (sets (l .image) (linksStart + linkSize * l .i)) (c .before .before .before .before .before .link-body .ensures)
+          ∙ joined-put-row linkBody (linkAt (s .args .t2)) linkSize length-link-body (s .args .image .now) _ linksStart (l .i) (link-read (s .args .t2) _ (l .i) (omega (arith, whole s))) (l .inv .1),
+      omega (arith, c .before .before .put-all .kept .0, l .inv .2),
+    )
 
 same-length : tie.Need-same-length Inv-loop μ-loop
 same-length c = c .before .loop .inv .2
@@ -75,7 +85,7 @@ put-first-links-spec =
     loop-holds
     mul-l
     element-copy-out-l
-    link-image-requires
+    link-body-requires
     mul-put-all
     add-put-all
     slice-aggregate-put-all

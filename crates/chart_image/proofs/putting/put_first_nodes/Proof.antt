@@ -1,5 +1,4 @@
 -- `chart_image::put_first_nodes` meets its contract. The loop's invariant: the nodes before i are stored.
-use Rattle.chart.proofs.Laws.{node-read}
 use Prim.Native.Nat.{_≤_, _-_}
 use mathlib.Core.Path.{_≡_, refl, _∙_}
 use native.Mathlib.Omega.{arith}
@@ -7,16 +6,18 @@ use lib.ListN.{length, length-map}
 use lib.Seq.{sets}
 use Rattle.lists.specs.Places.{joined}
 use Rattle.lists.proofs.Places.{joined-none}
+use Rattle.lists.proofs.Runs.{joined-put-row}
 use Rattle.chart.specs.Values.{nodeAt}
-use Rattle.chart_image.specs.Image.{nodeImage}
-use Rattle.chart_image.proofs.Laws.{nodes-next}
+use Rattle.chart.proofs.Laws.{node-read}
+use Rattle.chart_image.specs.Image.{nodesStart, nodeSize, nodeImage}
+use Rattle.chart_image.proofs.Laws.{length-node}
 use borrow.Author.Needs.{needs}
 use Rattle.chart_image.proofs.putting.put_first_nodes.Statement.{statement}
 use Rattle.chart_image.proofs.putting.put_first_nodes.Tie as tie
 
 abbrev Inv-loop : tie.InvT-loop
 Inv-loop image₀ n nodes i₀ image i =
-    (i ≤ n) × (image ≡ sets image₀ 8 (joined nodeImage (nodeAt nodes) i)) × (length image ≡ length image₀)
+    (i ≤ n) × (image ≡ sets image₀ nodesStart (joined nodeImage (nodeAt nodes) i)) × (length image ≡ length image₀)
 
 abbrev μ-loop : tie.MeasureT-loop
 μ-loop image₀ n nodes i₀ image i = n - i
@@ -51,8 +52,12 @@ loop-less c = search needs
 
 loop-again : tie.Need-loop-again Inv-loop μ-loop
 loop-again c =
-    let l = c .before .before .before .before .before .before .loop in
-    (omega arith, c .before .before .put-node .ensures ∙ rw (l .inv .1) (nodes-next (c .before .before .before .before .before .before .before .before .args .image .now) (c .before .before .before .before .before .before .before .before .args .t2) (l .i) (node-read (c .before .before .before .before .before .before .before .before .args .t2) _ (l .i) (omega (arith, whole (c .before .before .before .before .before .before .before .before))))), omega (arith, c .before .before .put-node .kept .0, l .inv .2))
+    let s = (c .before .before .before .before .before .before .before .before) in
+    let l = c .before .before .before .before .before .before .loop in (
+      omega arith,
+      c .before .before .put-node .ensures ∙ joined-put-row nodeImage (nodeAt (s .args .t2)) nodeSize length-node (s .args .image .now) _ nodesStart (l .i) (node-read (s .args .t2) _ (l .i) (omega (arith, whole s))) (l .inv .1),
+      omega (arith, c .before .before .put-node .kept .0, l .inv .2),
+    )
 
 same-length : tie.Need-same-length Inv-loop μ-loop
 same-length c = c .before .loop .inv .2

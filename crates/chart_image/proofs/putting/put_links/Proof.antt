@@ -3,9 +3,11 @@ use mathlib.Core.Path.{refl, sym, ap, _∙_}
 use native.Mathlib.Omega.{arith}
 use lib.Seq.{sets}
 use Rattle.lists.proofs.Places.{joined-full}
-use Rattle.chart.specs.Values.{noLink, linkAt}
+use Rattle.lists.proofs.Stores.{joined-zeros}
+use Rattle.chart.specs.Values.{mostLinks, noLink, linkAt}
 use Rattle.chart_write.specs.Writing.{linkBody}
-use Rattle.chart_image.proofs.Laws.{length-link, stored-padded}
+use Rattle.chart_write.proofs.Laws.{length-link-body}
+use Rattle.chart_image.specs.Image.{linksStart, linkSize}
 use borrow.Author.Needs.{needs}
 use Rattle.chart_image.proofs.putting.put_links.Statement.{statement}
 use Rattle.chart_image.proofs.putting.put_links.Tie as tie
@@ -18,7 +20,8 @@ same-length c = search needs
 
 returns : tie.Need-returns
 returns c =
-    c .before .before .put-first-links .ensures ∙ ap (sets (c .before .before .before .before .before .before .before .args .image .now) 456) (sym (joined-full linkBody noLink (linkAt (c .before .before .before .before .before .before .before .args .links)) (c .before .before .before .before .before .before .before .args .links .count) 48 (omega arith)))
+    let a = c .before .before .before .before .before .before .before .args in
+    c .before .before .put-first-links .ensures ∙ ap (sets (a .image .now) linksStart) (sym (joined-full linkBody noLink (linkAt (a .links)) (a .links .count) mostLinks (omega arith)))
 
 cast-n : tie.Need-cast-n
 cast-n c = search needs
@@ -47,7 +50,8 @@ same-length-2 c = search needs
 returns-2 : tie.Need-returns-2
 unfolding linkBody
 returns-2 c =
-    c .before .before .put-zeros .ensures ∙ rw (c .before .before .before .before .before .before .put-first-links2 .ensures) (stored-padded linkBody 9 length-link noLink refl (c .before .before .before .before .before .before .before .before .before .before .before .before .args .image .now) 456 (linkAt (c .before .before .before .before .before .before .before .before .before .before .before .before .args .links)) (c .before .before .before .before .before .before .before .before .before .before .before .before .args .links .count) 48 (c .before .before .before .before .before .before .before .before .before .if1 .left))
+    let a = c .before .before .before .before .before .before .before .before .before .before .before .before .args in
+    c .before .before .put-zeros .ensures ∙ rw (c .before .before .before .before .before .before .put-first-links2 .ensures) (joined-zeros linkBody linkSize length-link-body noLink refl (a .image .now) linksStart (linkAt (a .links)) (a .links .count) mostLinks (c .before .before .before .before .before .before .before .before .before .if1 .left))
 
 pub put-links-spec : {M : Type 1} → statement M
 put-links-spec =

@@ -4,9 +4,10 @@ use native.Mathlib.Omega.{arith}
 use lib.Seq.{sets}
 use Rattle.lists.specs.Places.{firsts, elementAt}
 use Rattle.lists.proofs.Places.{joined-full}
-use Rattle.chart.specs.Values.{noNode, nodeAt}
-use Rattle.chart_image.specs.Image.{nodeImage}
-use Rattle.chart_image.proofs.Laws.{length-node, stored-padded}
+use Rattle.lists.proofs.Stores.{joined-zeros}
+use Rattle.chart.specs.Values.{mostNodes, noNode, nodeAt}
+use Rattle.chart_image.specs.Image.{nodesStart, nodeSize, nodeImage}
+use Rattle.chart_image.proofs.Laws.{length-node}
 use borrow.Author.Needs.{needs}
 use Rattle.chart_image.proofs.putting.put_nodes.Statement.{statement}
 use Rattle.chart_image.proofs.putting.put_nodes.Tie as tie
@@ -19,7 +20,8 @@ same-length c = search needs
 
 returns : tie.Need-returns
 returns c =
-    c .before .before .put-first-nodes .ensures ∙ ap (sets (c .before .before .before .before .before .before .before .args .image .now) 8) (sym (joined-full nodeImage noNode (nodeAt (c .before .before .before .before .before .before .before .args .nodes)) (c .before .before .before .before .before .before .before .args .nodes .count) 16 (omega arith)))
+    let a = c .before .before .before .before .before .before .before .args in
+    c .before .before .put-first-nodes .ensures ∙ ap (sets (a .image .now) nodesStart) (sym (joined-full nodeImage noNode (nodeAt (a .nodes)) (a .nodes .count) mostNodes (omega arith)))
 
 cast-n : tie.Need-cast-n
 cast-n c = search needs
@@ -48,7 +50,8 @@ same-length-2 c = search needs
 returns-2 : tie.Need-returns-2
 unfolding nodeImage firsts elementAt
 returns-2 c =
-    c .before .before .put-zeros .ensures ∙ rw (c .before .before .before .before .before .before .put-first-nodes2 .ensures) (stored-padded nodeImage 28 length-node noNode refl (c .before .before .before .before .before .before .before .before .before .before .before .before .args .image .now) 8 (nodeAt (c .before .before .before .before .before .before .before .before .before .before .before .before .args .nodes)) (c .before .before .before .before .before .before .before .before .before .before .before .before .args .nodes .count) 16 (c .before .before .before .before .before .before .before .before .before .if1 .left))
+    let a = c .before .before .before .before .before .before .before .before .before .before .before .before .args in
+    c .before .before .put-zeros .ensures ∙ rw (c .before .before .before .before .before .before .put-first-nodes2 .ensures) (joined-zeros nodeImage nodeSize length-node noNode refl (a .image .now) nodesStart (nodeAt (a .nodes)) (a .nodes .count) mostNodes (c .before .before .before .before .before .before .before .before .before .if1 .left))
 
 pub put-nodes-spec : {M : Type 1} → statement M
 put-nodes-spec =

@@ -1,12 +1,12 @@
--- `chart_write::storing::chart_size` meets its contract: the nodes' fields, 12 bytes for each link and 9 for the question.
-use Rattle.chart_write.proofs.Laws.{length-chart}
-use borrow.Author.Needs.{needs}
+-- `chart_write::storing::chart_size` meets its contract: the nodes' fields, a field for each link and the question's.
+use Rattle.chart_write.proofs.Laws.{length-chart, short}
 use native.Mathlib.Omega.{arith}
+use borrow.Author.Needs.{needs}
 use Rattle.chart_write.proofs.storing.chart_size.Statement.{statement}
 use Rattle.chart_write.proofs.storing.chart_size.Tie as tie
 
 nodes-size-requires : tie.Need-nodes-size-requires
-nodes-size-requires c κs = search needs
+nodes-size-requires c κs = short (c .before .args .c) (c .before .pre)
 
 cast-result : tie.Need-cast-result
 cast-result c = search needs

@@ -1,13 +1,16 @@
 -- `chart_write::storing::put_links` meets its contract. The loop's invariant: the links before i are stored.
-use Prim.Native.Nat.{_≤_, _-_}
+use Prim.Native.Nat.{_+_, _*_, _≤_, _<_, _-_}
 use mathlib.Core.Path.{_≡_, refl, ap, _∙_}
 use lib.ListN.{length, length-map}
-use lib.Seq.{sets, length-sets}
+use lib.Seq.{sets}
 use Rattle.lists.specs.Places.{joined}
 use Rattle.lists.proofs.Places.{joined-none}
+use Rattle.lists.proofs.Runs.{joined-put-row}
 use Rattle.chart.specs.Values.{linkAt}
-use Rattle.chart_write.specs.Writing.{linkField}
-use Rattle.chart_write.proofs.Laws.{link-stored}
+use Rattle.chart.proofs.Laws.{link-read}
+use Rattle.chart_read.specs.Fields.{linkTag, tagged}
+use Rattle.chart_write.specs.Writing.{linkField, linkFieldSize}
+use Rattle.chart_write.proofs.Laws.{length-link}
 use borrow.Author.Needs.{needs}
 use native.Mathlib.Omega.{arith}
 use Rattle.chart_write.proofs.storing.put_links.Statement.{statement}
@@ -15,7 +18,7 @@ use Rattle.chart_write.proofs.storing.put_links.Tie as tie
 
 abbrev Inv-loop : tie.InvT-loop
 Inv-loop out₀ at links i₀ out i =
-    (i ≤ links .count) × (out ≡ sets out₀ at (joined linkField (linkAt links) i))
+    (i ≤ links .count) × (out ≡ sets out₀ at (joined linkField (linkAt links) i)) × (length out ≡ length out₀)
 
 abbrev μ-loop : tie.MeasureT-loop
 μ-loop out₀ at links i₀ out i = links .count - i
@@ -25,7 +28,7 @@ whole : (s : tie.Start Inv-loop μ-loop) → length (s .args .t3 .items) ≡ 48
 whole s = simp length-map at (s .good .1 .1 .0 .1 .1 .1 .0 .1 .0 .1)
 
 loop-holds : tie.Need-loop-holds Inv-loop μ-loop
-loop-holds c = (omega arith, rw (joined-none linkField (linkAt (c .before .args .t3))) refl)
+loop-holds c = (omega arith, rw (joined-none linkField (linkAt (c .before .args .t3))) refl, refl)
 
 cast-loop : tie.Need-cast-loop Inv-loop μ-loop
 cast-loop c = search needs
@@ -36,20 +39,20 @@ mul-l c = search needs
 element-copy-out-l : tie.Need-element-copy-out-l Inv-loop μ-loop
 element-copy-out-l c = search needs
 
-link-field-requires : tie.Need-link-field-requires Inv-loop μ-loop
-link-field-requires c κs = search needs
+link-body-requires : tie.Need-link-body-requires Inv-loop μ-loop
+link-body-requires c κs = search needs
 
-mul-put-all : tie.Need-mul-put-all Inv-loop μ-loop
-mul-put-all c = search needs
+mul-put-field : tie.Need-mul-put-field Inv-loop μ-loop
+mul-put-field c = search needs
 
-add-put-all : tie.Need-add-put-all Inv-loop μ-loop
-add-put-all c = search needs
+add-put-field : tie.Need-add-put-field Inv-loop μ-loop
+add-put-field c = search needs
 
-slice-aggregate-put-all : tie.Need-slice-aggregate-put-all Inv-loop μ-loop
-slice-aggregate-put-all c = search needs
+slice-aggregate-put-field : tie.Need-slice-aggregate-put-field Inv-loop μ-loop
+slice-aggregate-put-field c = search needs
 
-put-all-requires : tie.Need-put-all-requires Inv-loop μ-loop
-put-all-requires c κs = search needs
+put-field-requires : tie.Need-put-field-requires Inv-loop μ-loop
+put-field-requires c κs = search needs
 
 add-i : tie.Need-add-i Inv-loop μ-loop
 add-i c = search needs
@@ -58,13 +61,19 @@ loop-less : tie.Need-loop-less Inv-loop μ-loop
 loop-less c = search needs
 
 loop-again : tie.Need-loop-again Inv-loop μ-loop
+unfolding linkField
 loop-again c =
     let s = (c .before .before .before .before .before .before .before .before .before .before) in
     let l = c .before .before .before .before .before .before .before .before .loop in
-    (omega arith, c .before .before .put-all .ensures ∙ link-stored (s .args .t3) _ (l .i) (s .args .at) _ _ _ (omega (arith, whole s)) (c .before .before .before .before .before .link-field .ensures) (l .inv .1))
+    let w : l .i < length (s .args .t3 .items) = omega (arith, whole s) in (
+      omega arith,
+      c .before .before .put-field .ensures ∙ ap (λ b. sets (l .out) (s .args .at + linkFieldSize * l .i) (tagged linkTag b)) (c .before .before .before .before .before .link-body .ensures)
+          ∙ joined-put-row linkField (linkAt (s .args .t3)) linkFieldSize length-link (s .args .out .now) _ (s .args .at) (l .i) (link-read (s .args .t3) _ (l .i) w) (l .inv .1),
+      omega (arith, c .before .before .put-field .kept .0, l .inv .2),
+    )
 
 same-length : tie.Need-same-length Inv-loop μ-loop
-same-length c = ap length (c .before .loop .inv .1) ∙ simp length-sets
+same-length c = c .before .loop .inv .2
 
 returns : tie.Need-returns Inv-loop μ-loop
 returns c =
@@ -82,11 +91,11 @@ put-links-spec =
     cast-loop
     mul-l
     element-copy-out-l
-    link-field-requires
-    mul-put-all
-    add-put-all
-    slice-aggregate-put-all
-    put-all-requires
+    link-body-requires
+    mul-put-field
+    add-put-field
+    slice-aggregate-put-field
+    put-field-requires
     add-i
     loop-less
     loop-again

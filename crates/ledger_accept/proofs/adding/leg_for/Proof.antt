@@ -11,7 +11,7 @@ use Rattle.ledger_accept.proofs.adding.leg_for.Tie as tie
 told : (c : tie.After-is-unrouted) → c .is-unrouted .result ≡ isUnrouted (chooseOf (c .before .before .before .before .args .table) (c .before .before .before .before .args .destination) (c .before .before .before .before .args .arrival))
 told c =
     let s = c .before .before .before .before in
-    c .is-unrouted .ensures ∙ ap isUnrouted (c .before .before .before .choice-for .ensures ∙ sym (chosen-tested (s .args .table) (s .args .destination) (s .args .arrival) (s .pre .0) (s .pre .1)))
+    c .is-unrouted .ensures ∙ ap isUnrouted (c .before .before .before .choice-for .ensures .0 ∙ sym (chosen-tested (s .args .table) (s .args .destination) (s .args .arrival) (s .pre .0) (s .pre .1)))
 
 choice-for-requires : tie.Need-choice-for-requires
 choice-for-requires c κs = search needs
