@@ -1,29 +1,51 @@
-/* Reads one frame from standard input and prints its fields, or the number that it is refused with. */
+/* Reads one frame from standard input and prints its fields, or the number that it is refused with;
+ * standard error then has the number in words. Exit status: 0 printed, 1 refused, 2 not read or not
+ * written. */
 #include <stdio.h>
 
-#include "poztecameh.h"
+#include "poztecameh_names.h"
 
-static unsigned word(const uint8_t *at) { return at[0] * 256u + at[1]; }
+enum { PRINTED = 0, REFUSED = 1, FAILED = 2 };
 
 static void print_address(const char *name, const uint8_t *at)
 {
-    printf("%s %u/%u/%u\n", name, at[0], word(at + 1), at[3]);
+    printf("%s %u/%u/%u\n", name, at[PZ_ADDRESS_BRIGADE], pz_word(at + PZ_ADDRESS_NODE),
+           at[PZ_ADDRESS_PORT]);
+}
+
+static void print_envelope(const uint8_t *image)
+{
+    print_address("source", image + PZ_ENVELOPE_SOURCE);
+    for (unsigned place = 0; place < image[PZ_ENVELOPE_COUNT]; place++)
+        print_address("destination", image + PZ_DESTINATION_AT(place));
+    printf("priority %u\n", image[PZ_ENVELOPE_PRIORITY]);
+    printf("version %u\n", image[PZ_ENVELOPE_VERSION]);
+    printf("acknowledgement %s\n", image[PZ_ENVELOPE_ACK] ? "asked for" : "not asked for");
+    printf("sequence %u\n", pz_word(image + PZ_ENVELOPE_SEQ));
+    printf("type %u\n", image[PZ_ENVELOPE_TYPE]);
+    printf("contents %u bytes from byte %u\n", pz_word(image + PZ_ENVELOPE_LENGTH),
+           pz_word(image + PZ_ENVELOPE_OFFSET));
 }
 
 int main(void)
 {
-    uint8_t frame[4096], image[PZ_ENVELOPE_SIZE];
+    /* One byte more than the longest frame tells that bytes stand after it. */
+    uint8_t frame[PZ_FRAME_SIZE + 1], image[PZ_ENVELOPE_SIZE];
     size_t n = fread(frame, 1, sizeof frame, stdin);
-    uint8_t number = pz_read(frame, n, image, sizeof image);
-    if (number != 0) {
-        printf("refused %u\n", number);
-        return 0;
+    if (ferror(stdin)) {
+        perror("frame: standard input");
+        return FAILED;
     }
-    print_address("source", image);
-    for (unsigned place = 0; place < image[4]; place++)
-        print_address("destination", image + 15 + 4 * place);
-    printf("priority %u\nversion %u\nacknowledgement %s\nsequence %u\ntype %u\n", image[7], image[8],
-           image[9] ? "asked for" : "not asked for", word(image + 10), image[12]);
-    printf("contents %u bytes from byte %u\n", word(image + 5), word(image + 13));
-    return 0;
+    uint8_t refusal = pz_read(frame, n, image, sizeof image);
+    if (refusal == PZ_DONE) {
+        print_envelope(image);
+    } else {
+        printf("refused %u\n", refusal);
+        fprintf(stderr, "frame: refused %u: %s\n", refusal, pz_refusal_text(refusal));
+    }
+    if (ferror(stdout) != 0 || fclose(stdout) != 0) {
+        perror("frame: standard output");
+        return FAILED;
+    }
+    return refusal == PZ_DONE ? PRINTED : REFUSED;
 }
