@@ -19,7 +19,7 @@
  * file. Any call may be made on any thread at any time, as long as nobody else writes what it
  * reads, or touches what it writes.
  *
- * Stack. Measured, not proved: pz_sheet needs 22,752 bytes, pz_first and pz_next up to 20,672, the
+ * Stack. Measured, not proved: pz_sheet needs 22,768 bytes, pz_first and pz_next up to 20,672, the
  * calls on a ledger up to 9,592, all others less than 4,000. tests/stack.c makes each call on a
  * painted stack, over the largest inputs and the deepest searches, and fails where one needs
  * 24,000. Give a thread 65,536 (PZ_STACK_SIZE): twice that, with room for the caller's own.
