@@ -71,6 +71,7 @@ enum Standing {
     Refused(u8, u8),
     Undeliverable,
     TimedOut,
+    Waiting,
 }
 
 #[derive(Clone, Copy)]
@@ -90,6 +91,7 @@ impl Leg {
             (2, set, code) => Standing::Refused(set, code),
             (3, 0, 0) => Standing::Undeliverable,
             (4, 0, 0) => Standing::TimedOut,
+            (5, 0, 0) => Standing::Waiting,
             _ => return None,
         };
         Some(Leg {
@@ -112,12 +114,13 @@ impl Leg {
             Standing::Refused(set, code) => [2, set, code],
             Standing::Undeliverable => [3, 0, 0],
             Standing::TimedOut => [4, 0, 0],
+            Standing::Waiting => [5, 0, 0],
         };
         b[12..15].copy_from_slice(&standing);
     }
 
     fn is_open(&self) -> bool {
-        self.standing == Standing::Open
+        matches!(self.standing, Standing::Open | Standing::Waiting)
     }
 
     fn is_right(&self) -> bool {
@@ -186,8 +189,12 @@ fn answer(
     let named =
         |leg: &Leg| leg.is_open() && leg.destination == by && leg.source == to && leg.seq == seq;
     let place = legs.iter().position(named).ok_or(64)?;
-    legs[place].standing = standing;
-    legs[place].ticks = 0;
+    if standing == Standing::Refused(2, 13) {
+        legs[place].standing = Standing::Waiting;
+    } else {
+        legs[place].standing = standing;
+        legs[place].ticks = 0;
+    }
     put_back(&legs, image);
     Ok(())
 }

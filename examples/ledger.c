@@ -25,7 +25,7 @@ static void print_leg(const uint8_t *leg)
     printf(" to ");
     print_address(leg + PZ_LEG_DESTINATION);
     printf(", message %u: %s", pz_word(leg + PZ_LEG_SEQ), pz_standing_text(standing));
-    if (standing == PZ_OPEN)
+    if (pz_is_open(standing))
         printf(", ticks %u", pz_word(leg + PZ_LEG_TICKS));
     if (standing == PZ_REFUSED)
         printf(", reason set %u code %u", leg[PZ_LEG_SET], leg[PZ_LEG_CODE]);
@@ -83,6 +83,8 @@ int main(void)
     show("accept", refusal);
     show("NAK by 9/20/5", pz_answer(ledger, sizeof ledger, 9, 20, 5, 9, 1, 2, SEQ, 1, 1, 7));
     show("ACK by 9/20/5", pz_answer(ledger, sizeof ledger, 9, 20, 5, 9, 1, 2, SEQ, 0, 0, 0));
+    show("wait by 9/21/5", pz_answer(ledger, sizeof ledger, 9, 21, 5, 9, 1, 2, SEQ, 1,
+                                     PZ_SET_ALERTER, PZ_CODE_WAIT_ACK));
     show("tick", pz_tick(ledger, sizeof ledger, &count));
     show("tick", pz_tick(ledger, sizeof ledger, &count));
     printf("timed out in this tick: %u\n", count);

@@ -102,9 +102,9 @@ uint8_t pz_choose(const uint8_t *table, size_t m, uint8_t brigade, uint16_t node
                   uint8_t *local, uint8_t *out);
 
 /* The image of a ledger: count 1, then 128 legs of 15, oldest first: source 4, destination 4, seq 2, ticks 2, standing 1
- * (0 open, 1 acknowledged, 2 refused, 3 undeliverable, 4 timed out), reason set 1, code 1. In a leg that counts a
- * standing above 4, or a set or code other than 0 beside a standing other than 2, is 60. Bytes of places past the
- * count are neither looked at nor changed, but for those that a call names. */
+ * (0 open, 1 acknowledged, 2 refused, 3 undeliverable, 4 timed out, 5 waiting, which is open too), reason set 1, code 1.
+ * In a leg that counts a standing above 5, or a set or code other than 0 beside a standing other than 2, is 60. Bytes of
+ * places past the count are neither looked at nor changed, but for those that a call names. */
 #define PZ_LEDGER_SIZE 1921
 
 /* Takes a frame that came in by the arrival port: legs for its destinations, open for so many ticks, are added at the
@@ -113,7 +113,8 @@ uint8_t pz_accept(uint8_t *ledger, size_t m, const uint8_t *frame, size_t n, uin
                   size_t t, uint16_t ticks, uint8_t *added);
 
 /* Settles the open leg that an answer names: who answers, to whom, and the sequence number. nak 0 is an ACK, any other
- * number a NAK with its reason set and code. 60, 64. */
+ * number a NAK with its reason set and code. A NAK of set 2, "alerter", with code 13, "wait_ack", says that the call is
+ * being made: it marks the leg as waiting and leaves its ticks; a second one changes nothing. 60, 64. */
 uint8_t pz_answer(uint8_t *ledger, size_t m, uint8_t by_brigade, uint16_t by_node, uint8_t by_port, uint8_t to_brigade,
                   uint16_t to_node, uint8_t to_port, uint16_t seq, uint8_t nak, uint8_t set, uint8_t code);
 

@@ -13,9 +13,9 @@
 
 /* The version of the two headers and of the library beside them. The first number changes with a
  * call, a refusal or an image that is there, the second where something is added. */
-#define PZ_VERSION_MAJOR 1
+#define PZ_VERSION_MAJOR 2
 #define PZ_VERSION_MINOR 0
-#define PZ_VERSION "1.0"
+#define PZ_VERSION "2.0"
 
 /* A thread's stack that is enough for any call: more than twice what any needs (poztecameh.h,
  * "Stack"). */
@@ -213,6 +213,17 @@ static inline void pz_put_address(uint8_t *at, uint8_t brigade, uint16_t node, u
 #define PZ_REFUSED 2
 #define PZ_UNDELIVERABLE 3
 #define PZ_TIMED_OUT 4
+#define PZ_WAITING 5
+
+/* The reason of a NAK that says wait: the set "alerter", and in it the code "wait_ack". */
+#define PZ_SET_ALERTER 2
+#define PZ_CODE_WAIT_ACK 13
+
+/* Whether a leg with this standing is open: it has ticks left, and an answer may settle it. */
+static inline bool pz_is_open(unsigned standing)
+{
+    return standing == PZ_OPEN || standing == PZ_WAITING;
+}
 
 static inline const char *pz_standing_text(unsigned standing)
 {
@@ -222,6 +233,7 @@ static inline const char *pz_standing_text(unsigned standing)
     case PZ_REFUSED: return "refused";
     case PZ_UNDELIVERABLE: return "undeliverable";
     case PZ_TIMED_OUT: return "timed out";
+    case PZ_WAITING: return "waiting";
     default: return "no standing has this number";
     }
 }

@@ -278,6 +278,24 @@ static void test_settling(void)
           ledger[PZ_LEDGER_COUNT] == PZ_MOST_LEGS - 1);
 }
 
+/* What is open by its name is open to the library: with ticks it may stand in a ledger, and no leg
+ * of it is cleared. */
+static void test_waiting(void)
+{
+    uint8_t ledger[PZ_LEDGER_SIZE], before[PZ_LEDGER_SIZE], ended;
+    put_ledger(ledger, 2);
+    put_ledger(before, 2);
+    CHECK(pz_answer(ledger, sizeof ledger, 10, 0x114, 5, 9, 0x201, 2, 1, 1, PZ_SET_ALERTER,
+                    PZ_CODE_WAIT_ACK) == PZ_DONE);
+    before[PZ_LEG_AT(1) + PZ_LEG_STANDING] = PZ_WAITING;
+    CHECK(memcmp(ledger, before, sizeof ledger) == 0);
+    for (unsigned number = 0; number <= UINT8_MAX; number++) {
+        put_ledger(ledger, 1);
+        ledger[PZ_LEG_AT(0) + PZ_LEG_STANDING] = (uint8_t)number;
+        CHECK((pz_tick(ledger, sizeof ledger, &ended) == PZ_DONE) == pz_is_open(number));
+    }
+}
+
 /* Accepts the plain envelope with the flag set, which has three destinations of which the first has
  * an entry. */
 static uint8_t accept(uint8_t *ledger, uint16_t ticks)
@@ -468,8 +486,12 @@ static void test_words(void)
         for (unsigned other = 0; refusal && other < number; other++)
             CHECK(strcmp(pz_refusal_text(number), pz_refusal_text(other)) != 0);
     }
-    for (unsigned number = PZ_OPEN; number <= PZ_TIMED_OUT; number++)
-        CHECK(strcmp(pz_standing_text(number), pz_standing_text(UINT8_MAX)) != 0);
+    none = pz_standing_text(UINT8_MAX);
+    for (unsigned number = 0; number <= UINT8_MAX; number++) {
+        CHECK((strcmp(pz_standing_text(number), none) != 0) == (number <= PZ_WAITING));
+        for (unsigned other = 0; other < number && number <= PZ_WAITING; other++)
+            CHECK(strcmp(pz_standing_text(number), pz_standing_text(other)) != 0);
+    }
 }
 
 static void test_version(void)
@@ -487,6 +509,7 @@ int main(void)
     test_envelope_refusals();
     test_table();
     test_settling();
+    test_waiting();
     test_accepting();
     test_chart();
     test_fields();

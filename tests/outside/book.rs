@@ -1,5 +1,5 @@
-//! A second ledger of legs, from document 01: a list of plain values, the four calls as each makes a
-//! new list from it, and the list's image as it passes through the door.
+//! A second ledger of legs, from documents 01 and 02: a list of plain values, the four calls as each
+//! makes a new list from it, and the list's image as it passes through the door.
 
 use crate::bits;
 use crate::router::{self, Table};
@@ -21,6 +21,10 @@ pub const ACKNOWLEDGED: usize = 1;
 pub const REFUSED: usize = 2;
 pub const UNDELIVERABLE: usize = 3;
 pub const TIMED_OUT: usize = 4;
+pub const WAITING: usize = 5;
+
+// The reason set "alerter" (appendix A) and its code "wait_ack" (D.1): the call is being made.
+pub const WAIT: (usize, usize) = (2, 13);
 
 /// A leg; the numbers may be out of range.
 #[derive(Clone, Copy)]
@@ -36,7 +40,7 @@ pub struct Leg {
 
 impl Leg {
     pub fn is_open(&self) -> bool {
-        self.standing == OPEN
+        self.standing == OPEN || self.standing == WAITING
     }
 
     // Gives what no two open legs have in common (3.3.4).
@@ -48,7 +52,7 @@ impl Leg {
         self.source.in_range()
             && self.destination.in_range()
             && self.seq <= HIGHEST_SEQ
-            && self.standing <= TIMED_OUT
+            && self.standing <= WAITING
             && self.is_open() == (self.ticks > 0)
             && (self.standing == REFUSED || (self.set, self.code) == (0, 0))
     }
@@ -158,6 +162,10 @@ pub fn answer(
     let mut legs = sound(image)?;
     let is_answered = |leg: &&mut Leg| leg.is_open() && leg.reference() == (to, by, seq);
     let leg = legs.iter_mut().find(is_answered).ok_or(64)?;
+    if reason == Some(WAIT) {
+        leg.standing = WAITING;
+        return Ok(legs);
+    }
     leg.ticks = 0;
     leg.standing = reason.map_or(ACKNOWLEDGED, |_| REFUSED);
     (leg.set, leg.code) = reason.unwrap_or((0, 0));
@@ -167,9 +175,9 @@ pub fn answer(
 /// Gives the legs after a Tick and how many timed out, or the refusal.
 pub fn tick(image: &[u8]) -> Result<(Vec<Leg>, usize), u8> {
     let before = sound(image)?;
-    let count_down = |leg: &Leg| match (leg.standing, leg.ticks) {
-        (OPEN, 1) => Leg { ticks: 0, standing: TIMED_OUT, ..*leg },
-        (OPEN, ticks) => Leg { ticks: ticks - 1, ..*leg },
+    let count_down = |leg: &Leg| match (leg.is_open(), leg.ticks) {
+        (true, 1) => Leg { ticks: 0, standing: TIMED_OUT, ..*leg },
+        (true, ticks) => Leg { ticks: ticks - 1, ..*leg },
         _ => *leg,
     };
     let after: Vec<Leg> = before.iter().map(count_down).collect();

@@ -2,7 +2,7 @@
 //! order in which the calls give their refusals.
 
 use crate::book::{self, Leg, MOST_LEGS};
-use crate::book::{ACKNOWLEDGED, OPEN, REFUSED, TIMED_OUT, UNDELIVERABLE};
+use crate::book::{ACKNOWLEDGED, OPEN, REFUSED, TIMED_OUT, UNDELIVERABLE, WAITING};
 use crate::call::Call;
 use crate::draw::Draw;
 use crate::envelope::{self, CARRIED};
@@ -53,7 +53,7 @@ fn sizes(group: &mut Group, _: &mut Draw) -> Outcome {
     Ok(())
 }
 
-const BROKEN: [(&str, Change); 34] = [
+const BROKEN: [(&str, Change); 36] = [
     ("open with 0 ticks", |l| stand(l, OPEN, 0)),
     ("acknowledged with 1 tick", |l| stand(l, ACKNOWLEDGED, 1)),
     ("acknowledged with 65535 ticks", |l| stand(l, ACKNOWLEDGED, 65535)),
@@ -74,8 +74,10 @@ const BROKEN: [(&str, Change); 34] = [
     ("destination port 255", |l| l.destination.port = 255),
     ("sequence number 32768", |l| l.seq = 32768),
     ("sequence number 65535", |l| l.seq = 65535),
-    ("standing 5", |l| stand(l, 5, 0)),
-    ("standing 5 with 1 tick", |l| stand(l, 5, 1)),
+    ("waiting with 0 ticks", |l| stand(l, WAITING, 0)),
+    ("a reason set beside waiting", |l| reason(l, WAITING, 2, 0)),
+    ("a code beside waiting", |l| reason(l, WAITING, 0, 13)),
+    ("standing 6 with 1 tick", |l| stand(l, 6, 1)),
     ("standing 6", |l| stand(l, 6, 0)),
     ("standing 128", |l| stand(l, 128, 0)),
     ("standing 255", |l| stand(l, 255, 0)),
@@ -90,10 +92,12 @@ const BROKEN: [(&str, Change); 34] = [
     ("a code beside timed out", |l| reason(l, TIMED_OUT, 0, 128)),
 ];
 
-const SOUND: [(&str, Change); 17] = [
+const SOUND: [(&str, Change); 19] = [
     ("open with 1 tick", |l| stand(l, OPEN, 1)),
     ("open with 256 ticks", |l| stand(l, OPEN, 256)),
     ("open with 65535 ticks", |l| stand(l, OPEN, 65535)),
+    ("waiting with 1 tick", |l| stand(l, WAITING, 1)),
+    ("waiting with 65535 ticks", |l| stand(l, WAITING, 65535)),
     ("acknowledged", |l| stand(l, ACKNOWLEDGED, 0)),
     ("refused with reason 0 of set 0", |l| reason(l, REFUSED, 0, 0)),
     ("refused with reason 0 of set 255", |l| reason(l, REFUSED, 255, 0)),
@@ -144,9 +148,10 @@ fn damage(group: &mut Group, _: &mut Draw) -> Outcome {
 }
 
 // What makes two legs that have the same reference differ, or not enough.
-const TWINS: [(&str, u8, Change); 15] = [
+const TWINS: [(&str, u8, Change); 16] = [
     ("alike", 60, |_| ()),
     ("alike but for the ticks", 60, |l| l.ticks = 1),
+    ("one waiting", 60, |l| stand(l, WAITING, 1)),
     ("one acknowledged", 0, |l| stand(l, ACKNOWLEDGED, 0)),
     ("one refused", 0, |l| stand(l, REFUSED, 0)),
     ("one undeliverable", 0, |l| stand(l, UNDELIVERABLE, 0)),

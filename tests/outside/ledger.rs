@@ -2,7 +2,7 @@
 //! both sides of every limit, and every value of the fields.
 
 use crate::book::{self, Leg, MOST_LEGS};
-use crate::book::{ACKNOWLEDGED, OPEN, REFUSED, TIMED_OUT, UNDELIVERABLE};
+use crate::book::{ACKNOWLEDGED, OPEN, REFUSED, TIMED_OUT, UNDELIVERABLE, WAITING};
 use crate::call::Call;
 use crate::door::{Answer, Expected, Given};
 use crate::draw::Draw;
@@ -59,7 +59,8 @@ pub fn stand(leg: &mut Leg, standing: usize, ticks: usize) {
 
 /// Sets a standing with ticks that go with it, and a reason whether or not that does.
 pub fn reason(leg: &mut Leg, standing: usize, set: usize, code: usize) {
-    *leg = Leg { standing, ticks: usize::from(standing == OPEN), set, code, ..*leg };
+    let open = standing == OPEN || standing == WAITING;
+    *leg = Leg { standing, ticks: usize::from(open), set, code, ..*leg };
 }
 
 pub fn settled(leg: Leg, standing: usize) -> Leg {
@@ -72,8 +73,9 @@ pub fn open_legs(count: usize) -> Vec<Leg> {
 
 /// Gives legs of each standing in turn: the first open, the second acknowledged.
 pub fn mixed_legs(count: usize) -> Vec<Leg> {
-    let mixed = |number: usize| match number % 5 {
+    let mixed = |number: usize| match number % 6 {
         OPEN => leg(number),
+        WAITING => Leg { standing: WAITING, ..leg(number) },
         REFUSED => Leg { set: number, code: 255 - number, ..settled(leg(number), REFUSED) },
         standing => settled(leg(number), standing),
     };
@@ -376,10 +378,11 @@ fn offers(group: &mut Group, _: &mut Draw) -> Outcome {
 }
 
 // An open leg with a message's source and sequence number stands in its way (3.3.4).
-const IN_THE_WAY: [(&str, u8, Change); 16] = [
+const IN_THE_WAY: [(&str, u8, Change); 17] = [
     ("to another destination", 62, |_| ()),
     ("to the same destination", 62, |l| l.destination = Address::new(9, 20, 1)),
     ("with 65535 ticks", 62, |l| l.ticks = 65535),
+    ("waiting", 62, |l| stand(l, WAITING, 1)),
     ("acknowledged", 0, |l| stand(l, ACKNOWLEDGED, 0)),
     ("refused", 0, |l| reason(l, REFUSED, 3, 25)),
     ("undeliverable", 0, |l| stand(l, UNDELIVERABLE, 0)),
@@ -419,6 +422,33 @@ fn in_the_way(group: &mut Group, _: &mut Draw) -> Outcome {
     Ok(())
 }
 
+// A NAK that says wait leaves its leg open and its ticks as they were; a second one changes nothing;
+// what settles comes after it. Reasons that only look like it settle.
+fn waits(group: &mut Group) -> Outcome {
+    for (count, place) in [(1, 0), (2, 1), (128, 0), (128, 64), (128, 127)] {
+        let legs = open_legs(count);
+        let wait = answer(&legs[place], [1, 2, 13]);
+        let came = known(group, "wait", 0, &wait, &image_of(&legs))?;
+        let mut marked = legs.clone();
+        marked[place].standing = WAITING;
+        let first = came.bytes().to_vec();
+        group.check(first == image_of(&marked), || "wait: another leg than its own changed".into())?;
+        let again = known(group, "wait again", 0, &wait, &first)?;
+        group.check(again.bytes() == &first[..], || "wait again: a byte changed".into())?;
+        known(group, "a waiting leg cleared", 65, &Call::Clear(place), &first)?;
+        for reply in [ACK, NAK, [1, 2, 9], [1, 1, 9], [1, 1, 13], [1, 2, 12], [1, 13, 2]] {
+            let call = answer(&legs[place], reply);
+            let came = known(group, "an answer after a wait", 0, &call, &first)?;
+            known(group, "a second one", 64, &call, came.bytes())?;
+            known(group, "a wait after it", 64, &wait, came.bytes())?;
+        }
+        marked[place].ticks = 1;
+        let came = known(group, "the last tick of a waiting leg", 0, &Call::Tick, &image_of(&marked))?;
+        known(group, "an answer after it", 64, &answer(&legs[place], ACK), came.bytes())?;
+    }
+    Ok(())
+}
+
 fn answers(group: &mut Group, _: &mut Draw) -> Outcome {
     let nak = [1, 2, 128, 255].map(|nak| [nak, 0, 0]);
     let replies = [&nak[..], &[ACK, NAK, [0, 255, 255], [255, 255, 255]]].concat();
@@ -441,6 +471,7 @@ fn answers(group: &mut Group, _: &mut Draw) -> Outcome {
         let ledger = image_of(&[twin, settled(leg(3), TIMED_OUT), leg(3), twin]);
         known(group, "one open leg of four alike", 0, &answer(&leg(3), reply), &ledger)?;
     }
+    waits(group)?;
     // All alike but for one field each.
     let one = leg(0);
     let many = [

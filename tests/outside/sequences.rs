@@ -1,7 +1,7 @@
 //! Drawn calls, thousands of them on one ledger: each is compared with the second ledger on every
 //! byte, and the next one is made on what should have come.
 
-use crate::book::{self, Leg, MOST_LEGS, OPEN, REFUSED, TIMED_OUT};
+use crate::book::{self, Leg, MOST_LEGS, OPEN, REFUSED, WAITING};
 use crate::call::Call;
 use crate::draw::Draw;
 use crate::envelope::{Fault, CARRIED_FAULTS, FRAME_FAULTS};
@@ -222,7 +222,9 @@ fn draw_answer(draw: &mut Draw, legs: &[Leg]) -> Call {
     }
     let any = draw.within(1, 255);
     let nak = draw.one_of(&[0, 0, 0, 1, 1, any]);
-    let reply = [nak, draw.below(256), draw.below(256)];
+    let any = (draw.below(256), draw.below(256));
+    let (set, code) = draw.one_of(&[any, any, book::WAIT, book::WAIT, (2, any.1), (1, 9)]);
+    let reply = [nak, set, code];
     Call::Answer { by, to, seq, reply }
 }
 
@@ -289,8 +291,8 @@ const LEDGER_FAULTS: [Fault<Vec<u8>>; 16] = [
     |l, draw| change_leg(l, draw, |leg, draw| leg.seq = draw.bad_seq()),
     |l, draw| change_leg(l, draw, |leg, _| leg.standing = OPEN),
     |l, draw| change_leg(l, draw, |leg, draw| leg.ticks = draw.one_of(&[0, 1, 256, 65535])),
-    |l, draw| change_leg(l, draw, |leg, draw| leg.standing = draw.within(REFUSED, TIMED_OUT)),
-    |l, draw| change_leg(l, draw, |leg, draw| leg.standing = draw.within(5, 255)),
+    |l, draw| change_leg(l, draw, |leg, draw| leg.standing = draw.within(REFUSED, WAITING)),
+    |l, draw| change_leg(l, draw, |leg, draw| leg.standing = draw.within(6, 255)),
     |l, draw| change_leg(l, draw, |leg, draw| leg.set = draw.within(1, 255)),
     |l, draw| change_leg(l, draw, |leg, draw| leg.code = draw.within(1, 255)),
     |l, draw| {

@@ -19,8 +19,9 @@ use Rattle.ledger.specs.Rules.{legAt, isOpen, isOpenLeg, alike, ticksObey, legO
 use Rattle.ledger.specs.Cases.{two, one}
 use Rattle.ledger_accept.specs.Accept.{isOpenFrom, isOpenFromAt, legsRefusal, callRefusal, acceptRefusal, legFor, legForAt, withLegs, acceptOf}
 use Rattle.ledger_accept.specs.Cases.{toHill, fireLegs}
-use Rattle.ledger_answer.specs.Answer.{standingFor, settled, withLeg, answeredAt, answeredPlace, answerRefusal, answerOf}
+use Rattle.ledger_answer.specs.Answer.{standingFor, settled, waits, answered, withLeg, answeredAt, answeredPlace, answerRefusal, answerOf}
 use Rattle.ledger_tick.specs.Tick.{timesOut, tickedLeg, tickedLedger, tickRefusal, tickOf}
+use Rattle.ledger_clear.specs.Clear.{closeUp, settledAt, clearRefusal, clearOf}
 use Rattle.ledger_laws.specs.Calls.{refusalOf, after}
 use Rattle.chart.specs.Values.{noChart, nodeAt, linkAt, strayByte, nodeInRange, endInRange, linkInRange, standsAt, hasNode, endsAt, hasEnd}
 use Rattle.chart.specs.Refusals.{nodeRefusalBy, linkRefusalBy, questionRefusalBy, nodeRefusal, linkRefusal, questionRefusal}
@@ -60,7 +61,7 @@ each (k ∷ ks) e c m = go (each ks (tail-eq-of-cons-eq e) c) (List·Memᴰ·cas
 
 -- they agree on the table
 computed : back table ≡ meant table
-unfolding readChartOf walk unlessRefused nothing noChart fieldRefusal bodyRefusal refusing nodeBodyRefusal linkBodyRefusal questionBodyRefusal nodeLate nodeIn linkIn bytesFrom withBody withNode withLink withQuestion nodeRefusalBy linkRefusalBy questionRefusalBy nodeRefusal linkRefusal questionRefusal nodeInRange linkInRange endInRange stationInRange inRange sameStation sameAddress hasNode hasEnd standsAt endsAt nodeAt linkAt strayByte anyBelow firstBelow firstFrom elementAt firsts row also only upFrom linksFrom over tries routes unmet allFrom allRoutes sameLinks stationPlace farEnd chartNet start routesOf routesBetween chartRefusal chartValuesRefusal firstRefusalBelow nodeRefusalAt linkRefusalAt firstOf nextOf answerRefusal findingRoute findingRefusal told firstRefusal nextRefusal firstRefusalOf nextRefusalOf traceFirst traceNext entryAt isOwn covers qualifies qualifiesAt hasRoute outPort outChoice targetInRange entryInRange strayEntry tableInRange callInRange chooseOf sameAt repeatAt repeats howMany legAt isOpen isOpenLeg alike ticksObey legObeys brokenAt obeys standingFor settled withLeg answeredAt answeredPlace answerOf timesOut tickedLeg tickedLedger tickRefusal tickOf refusalOf after S bytesS T two one fireBody fireFrame fireFields toHill fireLegs lengthOf countOf fieldsOf destinationAt xorFrom outside strayAt outOfRange wrongVersion wholeRefusal valuesRefusalBy frameRefusal readFrameOf contentsOf destinationsOf joined frameHead frameMid frameBody frameBytes isOpenFrom isOpenFromAt legsRefusal callRefusal acceptRefusal legFor legForAt withLegs acceptOf ifRead pzFirst pzNext numbersFrom imageS upTo nodeImage linkBody chartImage pzChartReadRefusal pzChartReadImage listFrom returnedBy afterAll answerTo table
+unfolding readChartOf walk unlessRefused nothing noChart fieldRefusal bodyRefusal refusing nodeBodyRefusal linkBodyRefusal questionBodyRefusal nodeLate nodeIn linkIn bytesFrom withBody withNode withLink withQuestion nodeRefusalBy linkRefusalBy questionRefusalBy nodeRefusal linkRefusal questionRefusal nodeInRange linkInRange endInRange stationInRange inRange sameStation sameAddress hasNode hasEnd standsAt endsAt nodeAt linkAt strayByte anyBelow firstBelow firstFrom elementAt firsts row also only upFrom linksFrom over tries routes unmet allFrom allRoutes sameLinks stationPlace farEnd chartNet start routesOf routesBetween chartRefusal chartValuesRefusal firstRefusalBelow nodeRefusalAt linkRefusalAt firstOf nextOf answerRefusal findingRoute findingRefusal told firstRefusal nextRefusal firstRefusalOf nextRefusalOf traceFirst traceNext entryAt isOwn covers qualifies qualifiesAt hasRoute outPort outChoice targetInRange entryInRange strayEntry tableInRange callInRange chooseOf sameAt repeatAt repeats howMany legAt isOpen isOpenLeg alike ticksObey legObeys brokenAt obeys standingFor settled waits answered withLeg answeredAt answeredPlace answerOf timesOut tickedLeg tickedLedger tickRefusal tickOf closeUp settledAt clearRefusal clearOf refusalOf after S bytesS T two one fireBody fireFrame fireFields toHill fireLegs lengthOf countOf fieldsOf destinationAt xorFrom outside strayAt outOfRange wrongVersion wholeRefusal valuesRefusalBy frameRefusal readFrameOf contentsOf destinationsOf joined frameHead frameMid frameBody frameBytes isOpenFrom isOpenFromAt legsRefusal callRefusal acceptRefusal legFor legForAt withLegs acceptOf ifRead pzFirst pzNext numbersFrom imageS upTo nodeImage linkBody chartImage pzChartReadRefusal pzChartReadImage listFrom returnedBy afterAll answerTo table
 computed = refl
 
 pub all-hold : AllHold

@@ -7,11 +7,11 @@ use Rattle.envelope.specs.Cases.{fireFrame, fireFields}
 use Rattle.envelope_read.specs.declared.Read.the-variants.{Envelope}
 use Rattle.table.specs.declared.Choice.the-variants.{Local, Out, Refused as Unrouted}
 use Rattle.table.specs.Cases.{T}
-use Rattle.ledger.specs.declared.Standing.the-variants.{Open, Acknowledged, Refused, TimedOut}
+use Rattle.ledger.specs.declared.Standing.the-variants.{Open, Acknowledged, Refused, TimedOut, Waiting}
 use Rattle.ledger.specs.Cases.{leg, ledger, two, one}
 use Rattle.ledger_accept.specs.Cases.{toHill, fireLegs}
 use Rattle.ledger_answer.specs.declared.Reply.the-variants.{Ack, Nak}
-use Rattle.ledger_laws.specs.Calls.{accepting, answering, ticking}
+use Rattle.ledger_laws.specs.Calls.{Call, accepting, answering, ticking, clearing}
 use Rattle.chart.specs.Sample.{S, bytesS}
 use Rattle.chart_read.specs.Reading.{refusedAt}
 use Rattle.chart_image.specs.Cases.{imageS}
@@ -42,6 +42,10 @@ refused k r = told (NoRoute k) (lent r)
 -- a call's number and count
 abbrev pub returns : ℕ → ℕ → Returned
 returns k n = record { refusal = k; count = n }
+
+-- 9/20/1 answers 9/1/5 that the call is being made
+abbrev pub wait : Call
+wait = answering (at 9 20 1) (at 9 1 5) (seq 7) (Nak 2 13)
 
 unfoldable pub table : List Case
 table =
@@ -78,6 +82,12 @@ table =
     ∷ (sending fireFields (at 9 20 5 ∷ at 9 21 5 ∷ []) (70 ∷ 105 ∷ 114 ∷ 101 ∷ []) ⟶ sent fireFrame)
     -- that frame accepted beside an open leg of another source with the same number: a leg with a route, and one without
     ∷ (calling (ledger (leg (at 9 2 2) (at 9 20 5) 300 1 Open ∷ [])) (accepting fireFrame (port 0) toHill 5 ∷ []) ⟶ called (returns 0 2 ∷ []) (ledger (leg (at 9 2 2) (at 9 20 5) 300 1 Open ∷ fireLegs)))
+    -- wait, wait, ACK; wait, ticks to the end, an ACK that comes too late; wait, then refused; the wait_ack of another set refuses at once
+    ∷ (calling (one 3 Open) (wait ∷ wait ∷ answering (at 9 20 1) (at 9 1 5) (seq 7) Ack ∷ []) ⟶ called (returns 0 0 ∷ returns 0 0 ∷ returns 0 0 ∷ []) (one 0 Acknowledged))
+    ∷ (calling (one 2 Open) (wait ∷ ticking ∷ ticking ∷ answering (at 9 20 1) (at 9 1 5) (seq 7) Ack ∷ []) ⟶ called (returns 0 0 ∷ returns 0 0 ∷ returns 0 1 ∷ returns 64 0 ∷ []) (one 0 TimedOut))
+    ∷ (calling (one 3 Open) (wait ∷ answering (at 9 20 1) (at 9 1 5) (seq 7) (Nak 2 9) ∷ []) ⟶ called (returns 0 0 ∷ returns 0 0 ∷ []) (one 0 (Refused 2 9)))
+    ∷ (calling (one 3 Open) (answering (at 9 20 1) (at 9 1 5) (seq 7) (Nak 1 9) ∷ []) ⟶ called (returns 0 0 ∷ []) (one 0 (Refused 1 9)))
+    ∷ (calling (one 3 Open) (wait ∷ clearing 0 ∷ []) ⟶ called (returns 0 0 ∷ returns 65 0 ∷ []) (one 3 Waiting))
     -- a NAK with its set and its code
     ∷ (calling (two 3 Open) (answering (at 9 20 1) (at 9 2 5) (seq 7) (Nak 2 9) ∷ []) ⟶ called (returns 0 0 ∷ []) (two 0 (Refused 2 9)))
     -- the image of S

@@ -8,7 +8,7 @@ use Rattle.lists.specs.Places.{anyBelow, sameAt, repeatAt, repeats, elementAt}
 use Rattle.address.specs.declared.Address.{Address}
 use Rattle.address.specs.Address.{addressOf, stationInRange, inRange, sameStation, sameAddress}
 use Rattle.ledger.specs.declared.Standing.{Standing}
-use Rattle.ledger.specs.declared.Standing.the-variants.{Open, Acknowledged, Refused, Undeliverable, TimedOut}
+use Rattle.ledger.specs.declared.Standing.the-variants.{Open, Acknowledged, Refused, Undeliverable, TimedOut, Waiting}
 use Rattle.ledger.specs.declared.Leg.{Leg}
 use Rattle.ledger.specs.declared.Ledger.{Ledger}
 use Rattle.ledger.specs.Rules.{noLeg, legAt, isOpen, isOpenLeg, alike, ticksObey, legObeys, brokenAt, obeys}
@@ -34,8 +34,9 @@ unfoldable pub one : ℕ → Standing → Ledger
 one ticks s = ledger (hill 7 ticks s ∷ [])
 
 pub record Cases : Type 0 where
-  -- one standing is open
-  pub waits : isOpen Open ≡ true
+  -- two standings are open
+  pub sent : isOpen Open ≡ true
+  pub waits : isOpen Waiting ≡ true
   pub acknowledged : isOpen Acknowledged ≡ false
   pub refused : isOpen (Refused 2 9) ≡ false
   pub undeliverable : isOpen Undeliverable ≡ false
@@ -43,6 +44,8 @@ pub record Cases : Type 0 where
   -- ticks by the standing
   pub open-1 : obeys (one 1 Open) ≡ true
   pub open-0 : obeys (one 0 Open) ≡ false
+  pub waiting-1 : obeys (one 1 Waiting) ≡ true
+  pub waiting-0 : obeys (one 0 Waiting) ≡ false
   pub settled-0 : obeys (one 0 (Refused 2 9)) ≡ true
   pub settled-1 : obeys (one 1 TimedOut) ≡ false
   -- ranges
@@ -52,6 +55,7 @@ pub record Cases : Type 0 where
   pub destination : obeys (ledger (leg (addressOf 9 1 5) (addressOf 9 1024 1) 7 1 Open ∷ [])) ≡ false
   -- two open legs alike; with another source, destination or number, or one of them settled, they are not
   pub alike-legs : obeys (ledger (hill 7 1 Open ∷ hill 7 2 Open ∷ [])) ≡ false
+  pub alike-waiting : obeys (ledger (hill 7 1 Waiting ∷ hill 7 2 Open ∷ [])) ≡ false
   pub two-sources : obeys (two 3 Open) ≡ true
   pub two-destinations : obeys (ledger (hill 7 1 Open ∷ leg (addressOf 9 1 5) (addressOf 9 21 1) 7 1 Open ∷ [])) ≡ true
   pub two-numbers : obeys (ledger (hill 7 1 Open ∷ hill 8 1 Open ∷ [])) ≡ true
@@ -67,6 +71,7 @@ pub cases : Cases
 unfolding two one anyBelow sameAt repeatAt repeats elementAt stationInRange inRange sameStation sameAddress legAt isOpen isOpenLeg alike ticksObey legObeys brokenAt obeys
 cases =
     record {
+      sent = refl;
       waits = refl;
       acknowledged = refl;
       refused = refl;
@@ -74,6 +79,8 @@ cases =
       timed-out = refl;
       open-1 = refl;
       open-0 = refl;
+      waiting-1 = refl;
+      waiting-0 = refl;
       settled-0 = refl;
       settled-1 = refl;
       seq = refl;
@@ -81,6 +88,7 @@ cases =
       source = refl;
       destination = refl;
       alike-legs = refl;
+      alike-waiting = refl;
       two-sources = refl;
       two-destinations = refl;
       two-numbers = refl;

@@ -7,7 +7,7 @@ use Rattle.address.specs.declared.Seq.{Seq}
 use Rattle.address.specs.declared.Address.{Address}
 use Rattle.address.specs.Address.{largestSeq, zeroAddress, inRange, sameAddress}
 use Rattle.ledger.specs.declared.Standing.{Standing}
-use Rattle.ledger.specs.declared.Standing.the-variants.{Open, Acknowledged, Refused, Undeliverable, TimedOut}
+use Rattle.ledger.specs.declared.Standing.the-variants.{Open, Acknowledged, Refused, Undeliverable, TimedOut, Waiting}
 use Rattle.ledger.specs.declared.Leg.{Leg}
 use Rattle.ledger.specs.declared.Ledger.{Ledger}
 
@@ -27,13 +27,14 @@ withStanding g ticks s = record { source = g .source; destination = g .destinati
 unfoldable pub legAt : Ledger → ℕ → Leg
 legAt l i = elementAt noLeg (l .legs) i
 
--- whether a standing is open: every rule asks it here
+-- whether a standing is open: every rule asks it here. A leg that waits is open
 unfoldable pub isOpen : Standing → Bool
 isOpen Open = true
 isOpen Acknowledged = false
 isOpen (Refused set code) = false
 isOpen Undeliverable = false
 isOpen TimedOut = false
+isOpen Waiting = true
 
 -- an open leg with this source, this destination and this sequence number
 unfoldable pub isOpenLeg : Address → Address → Seq → Leg → Bool

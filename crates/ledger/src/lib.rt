@@ -14,12 +14,14 @@ pub use rules::is_open;
 pub use rules::is_open_leg;
 pub use rules::obeys;
 
+// `Waiting` is an open standing too: the call is being made.
 pub enum Standing {
     Open,
     Acknowledged,
     Refused(u8, u8),
     Undeliverable,
     TimedOut,
+    Waiting,
 }
 
 pub struct Leg {

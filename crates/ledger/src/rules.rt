@@ -16,10 +16,14 @@ pub const MOST_LEGS: u8 = 128;
 pub fn is_open(s: Standing) -> bool
     ensures { λ r. ⌜ r ≡ isOpen s ⌝ }
 {
-    let Standing::Open = s else {
-        return false;
-    };
-    true
+    match s {
+        Standing::Open => true,
+        Standing::Acknowledged => false,
+        Standing::Refused(_, _) => false,
+        Standing::Undeliverable => false,
+        Standing::TimedOut => false,
+        Standing::Waiting => true,
+    }
 }
 
 // Whether the leg is open, and has this source, this destination and this sequence number.

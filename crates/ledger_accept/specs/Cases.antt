@@ -15,7 +15,7 @@ use Rattle.table.specs.declared.Target.the-variants.{One, Everything}
 use Rattle.table.specs.declared.Table.{Table}
 use Rattle.table.specs.Table.{entryAt, isOwn, covers, qualifies, qualifiesAt, hasRoute, outPort, outChoice, targetInRange, entryInRange, strayEntry, tableInRange, callInRange, chooseOf}
 use Rattle.table.specs.Cases.{entry, single}
-use Rattle.ledger.specs.declared.Standing.the-variants.{Open, Acknowledged, Undeliverable}
+use Rattle.ledger.specs.declared.Standing.the-variants.{Open, Acknowledged, Undeliverable, Waiting}
 use Rattle.ledger.specs.declared.Leg.{Leg}
 use Rattle.ledger.specs.Rules.{legAt, isOpen, isOpenLeg, alike, ticksObey, legObeys, brokenAt, obeys}
 use Rattle.ledger.specs.Cases.{leg, ledger, hill}
@@ -47,6 +47,7 @@ pub record Cases : Type 0 where
   -- to any destination
   pub busy : acceptOf (ledger (leg (addressOf 9 1 2) (addressOf 12 7 1) 300 1 Open ∷ [])) fireFrame begun toHill 5
       ≡ record { refusal = 62; added = 0; ledger = ledger (leg (addressOf 9 1 2) (addressOf 12 7 1) 300 1 Open ∷ []) }
+  pub busy-waiting : acceptOf (ledger (leg (addressOf 9 1 2) (addressOf 12 7 1) 300 1 Waiting ∷ [])) fireFrame begun toHill 5 .refusal ≡ 62
   pub no-ticks : acceptOf (ledger (leg (addressOf 9 1 2) (addressOf 12 7 1) 300 1 Open ∷ [])) fireFrame begun toHill 0 .refusal ≡ 61
   pub full : acceptOf (record { count = 127; legs = replicate 128 (hill 7 0 Acknowledged) }) fireFrame begun toHill 5 .refusal ≡ 63
   pub room : acceptOf (record { count = 126; legs = replicate 128 (hill 7 0 Acknowledged) }) fireFrame begun toHill 5 .refusal ≡ 0
@@ -69,6 +70,7 @@ cases =
       other-number = refl;
       settled = refl;
       busy = refl;
+      busy-waiting = refl;
       no-ticks = refl;
       full = refl;
       room = refl;

@@ -1,4 +1,4 @@
-// An answer settles the open leg that it names.
+// An answer settles the open leg that it names, or marks it as waiting.
 use address::Address;
 use address::Seq;
 use ledger::Ledger;
@@ -10,8 +10,13 @@ use ledger::obeys;
 use ledger::with_standing;
 ghost use mathlib.Core.Path.{_≡_};
 ghost use Prim.Native.Nat.{_≤_};
-ghost use Rattle.ledger_answer.specs.Answer.{standingFor, settled, answeredPlace, answerOf};
+ghost use Rattle.ledger_answer.specs.Answer.{standingFor, settled, waits, answered, answeredPlace, answerOf};
 ghost use Rattle.ledger.specs.Rules.{mostLegs};
+
+// The reason set "alerter" (appendix A, <reason_code_set>), and its code "wait_ack" (D.1).
+const ALERTER: u8 = 2;
+
+const WAIT_ACK: u8 = 13;
 
 pub enum Reply {
     Ack,
@@ -33,6 +38,26 @@ fn settled(g: Leg, r: Reply) -> Leg
     ensures { λ h. ⌜ h ≡ settled r g ⌝ }
 {
     with_standing(g, 0, standing_for(r))
+}
+
+// Whether the reply says wait.
+fn waits(r: Reply) -> bool
+    ensures { λ b. ⌜ b ≡ waits r ⌝ }
+{
+    match r {
+        Reply::Ack => false,
+        Reply::Nak(set, code) => (set == ALERTER) & (code == WAIT_ACK),
+    }
+}
+
+// The leg as the reply leaves it.
+fn answered(g: Leg, r: Reply) -> Leg
+    ensures { λ h. ⌜ h ≡ answered r g ⌝ }
+{
+    if waits(r) {
+        return with_standing(g, g.ticks, Standing::Waiting);
+    }
+    settled(g, r)
 }
 
 // The place of the open leg that an answer names, or the number of legs.
@@ -70,7 +95,7 @@ pub fn answer(l: Ledger, by: Address, to: Address, seq: Seq, reply: Reply) -> Ou
         };
     }
     let g = l.legs[k];
-    let h = settled(g, reply);
+    let h = answered(g, reply);
     let mut m = l;
     m.legs[k] = h;
     Outcome {

@@ -7,29 +7,29 @@ use lib.Dec.{eqb}
 use borrow.Author.Tests.{eq-eqb, ne-eqb, lt-ltb, le-ltb}
 use lib.ListN.{length, getD}
 use Rattle.ledger.specs.declared.Standing.{Standing}
-use Rattle.ledger.specs.declared.Standing.the-variants.{Open, Acknowledged, Refused, Undeliverable, TimedOut}
+use Rattle.ledger.specs.declared.Standing.the-variants.{Open, Acknowledged, Refused, Undeliverable, TimedOut, Waiting}
 use Rattle.ledger.specs.declared.Leg.{Leg}
 use Rattle.address_bytes.specs.Wide.{addressBytes}
 use Rattle.ledger_image.specs.Leg.{standingBytes, strayStanding, legBytes}
 
 -- the tests of a standing's bytes, in the code's order
 module _ (kind set code : ℕ) where
-  pub kind-stray : 4 < kind → true ≡ strayStanding kind set code
+  pub kind-stray : 5 < kind → true ≡ strayStanding kind set code
   unfolding strayStanding
-  kind-stray h = rw (lt-ltb 4 kind h)
+  kind-stray h = rw (lt-ltb 5 kind h)
 
-  module _ (known : kind ≤ 4) where
+  module _ (known : kind ≤ 5) where
     pub refusal-known : kind ≡ 2 → false ≡ strayStanding kind set code
     unfolding strayStanding
-    refusal-known e = rw (le-ltb 4 kind known, eq-eqb kind 2 e)
+    refusal-known e = rw (le-ltb 5 kind known, eq-eqb kind 2 e)
 
     pub set-stray : (kind ≡ 2 → ⊥) → (set ≡ 0 → ⊥) → true ≡ strayStanding kind set code
     unfolding strayStanding
-    set-stray ne some = rw (le-ltb 4 kind known, ne-eqb kind 2 ne, ne-eqb set 0 some)
+    set-stray ne some = rw (le-ltb 5 kind known, ne-eqb kind 2 ne, ne-eqb set 0 some)
 
     pub code-tells : (kind ≡ 2 → ⊥) → set ≡ 0 → not (eqb code 0) ≡ strayStanding kind set code
     unfolding strayStanding
-    code-tells ne none = rw (le-ltb 4 kind known, ne-eqb kind 2 ne, eq-eqb set 0 none)
+    code-tells ne none = rw (le-ltb 5 kind known, ne-eqb kind 2 ne, eq-eqb set 0 none)
 
 -- the three bytes of a standing, one by one
 three : (s : Standing) → standingBytes s ≡ getD (standingBytes s) 0 0 ∷ getD (standingBytes s) 1 0 ∷ getD (standingBytes s) 2 0 ∷ []
@@ -39,6 +39,7 @@ three Acknowledged = refl
 three (Refused set code) = refl
 three Undeliverable = refl
 three TimedOut = refl
+three Waiting = refl
 
 module _ (g : Leg) where
   pub length-leg : length (legBytes g) ≡ 15

@@ -14,7 +14,7 @@ use Rattle.lists.specs.Places.{firsts}
 use Rattle.lists.proofs.Bools.{and-left, and-right, or-no-left}
 use Rattle.lists.proofs.Places.{firsts-at}
 use Rattle.ledger.specs.declared.Standing.{Standing}
-use Rattle.ledger.specs.declared.Standing.the-variants.{Open, Acknowledged, Refused, Undeliverable, TimedOut}
+use Rattle.ledger.specs.declared.Standing.the-variants.{Open, Acknowledged, Refused, Undeliverable, TimedOut, Waiting}
 use Rattle.ledger.specs.declared.Leg.{Leg}
 use Rattle.address_bytes.specs.Wide.{addressIn}
 use Rattle.ledger_image.specs.Leg.{standingBytes, standingOf, strayStanding, legBytes, legIn, strayLegIn}
@@ -51,6 +51,7 @@ standing-back Acknowledged = refl
 standing-back (Refused reason code) = refl
 standing-back Undeliverable = refl
 standing-back TimedOut = refl
+standing-back Waiting = refl
 
 standing-known : (s : Standing) → strayStanding (getD (standingBytes s) 0 0) (getD (standingBytes s) 1 0) (getD (standingBytes s) 2 0) ≡ false
 unfolding strayStanding standingBytes
@@ -59,6 +60,7 @@ standing-known Acknowledged = refl
 standing-known (Refused reason code) = refl
 standing-known Undeliverable = refl
 standing-known TimedOut = refl
+standing-known Waiting = refl
 
 no-reason : (reason code : ℕ) → not (eqb reason 0 && eqb code 0) ≡ false → (reason ≡ 0) × (code ≡ 0)
 no-reason reason code e =
@@ -73,8 +75,9 @@ standing-forth (suc zero) reason code e = let r = no-reason reason code e in rw 
 standing-forth (suc (suc zero)) reason code e = refl
 standing-forth (suc (suc (suc zero))) reason code e = let r = no-reason reason code e in rw (r .0, r .1)
 standing-forth (suc (suc (suc (suc zero)))) reason code e = let r = no-reason reason code e in rw (r .0, r .1)
-standing-forth (suc (suc (suc (suc (suc k))))) reason code e =
-    let h = ltb-false 4 (suc (suc (suc (suc (suc k))))) (or-no-left _ _ e) in absurd (omega arith)
+standing-forth (suc (suc (suc (suc (suc zero))))) reason code e = let r = no-reason reason code e in rw (r .0, r .1)
+standing-forth (suc (suc (suc (suc (suc (suc k)))))) reason code e =
+    let h = ltb-false 5 (suc (suc (suc (suc (suc (suc k)))))) (or-no-left _ _ e) in absurd (omega arith)
 
 -- ---- a leg is read from its 15 bytes, wherever they stand
 

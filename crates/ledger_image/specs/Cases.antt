@@ -6,7 +6,7 @@ use mathlib.Core.List.{List, [], _∷_, _++_}
 use lib.ListN.{length, replicate, set, take}
 use Rattle.lists.specs.Places.{anyBelow, elementAt, firsts, row, joined}
 use Rattle.lists.specs.Refusals.{unlessRefused}
-use Rattle.ledger.specs.declared.Standing.the-variants.{Open, Acknowledged, Refused, Undeliverable, TimedOut}
+use Rattle.ledger.specs.declared.Standing.the-variants.{Open, Acknowledged, Refused, Undeliverable, TimedOut, Waiting}
 use Rattle.ledger.specs.Rules.{legAt}
 use Rattle.ledger.specs.Cases.{hill, ledger}
 use Rattle.ledger_image.specs.Leg.{standingBytes, standingOf, strayStanding, legBytes, legIn, strayLegIn}
@@ -24,16 +24,16 @@ pub record Cases : Type 0 where
   pub read : ledgerOf twoImage ≡ ledger (hill 300 513 Open ∷ hill 300 0 (Refused 2 9) ∷ [])
   pub put : withLedger (replicate 1921 0) (ledger (hill 300 513 Open ∷ hill 300 0 (Refused 2 9) ∷ [])) 2 ≡ twoImage
   -- the standings by their numbers
-  pub standings : standingBytes Open ++ standingBytes Acknowledged ++ standingBytes (Refused 7 8) ++ standingBytes Undeliverable ++ standingBytes TimedOut
-      ≡ 0 ∷ 0 ∷ 0 ∷ 1 ∷ 0 ∷ 0 ∷ 2 ∷ 7 ∷ 8 ∷ 3 ∷ 0 ∷ 0 ∷ 4 ∷ 0 ∷ 0 ∷ []
-  pub back : (standingOf 1 0 0 ≡ Acknowledged) × (standingOf 2 7 8 ≡ Refused 7 8) × (standingOf 3 0 0 ≡ Undeliverable) × (standingOf 4 0 0 ≡ TimedOut)
-  -- too short, a leg too many, a standing of 5, a set beside an open leg
+  pub standings : standingBytes Open ++ standingBytes Acknowledged ++ standingBytes (Refused 7 8) ++ standingBytes Undeliverable ++ standingBytes TimedOut ++ standingBytes Waiting
+      ≡ 0 ∷ 0 ∷ 0 ∷ 1 ∷ 0 ∷ 0 ∷ 2 ∷ 7 ∷ 8 ∷ 3 ∷ 0 ∷ 0 ∷ 4 ∷ 0 ∷ 0 ∷ 5 ∷ 0 ∷ 0 ∷ []
+  pub back : (standingOf 1 0 0 ≡ Acknowledged) × (standingOf 2 7 8 ≡ Refused 7 8) × (standingOf 3 0 0 ≡ Undeliverable) × (standingOf 4 0 0 ≡ TimedOut) × (standingOf 5 0 0 ≡ Waiting)
+  -- too short, a leg too many, a standing of 6, a set beside an open leg
   pub short : readableLedger (take 1920 twoImage) ≡ false
   pub many : readableLedger (set twoImage 0 129) ≡ false
-  pub stray : readableLedger (set twoImage 13 5) ≡ false
+  pub stray : readableLedger (set twoImage 13 6) ≡ false
   pub reason : readableLedger (set twoImage 14 1) ≡ false
   -- what stands past the count is not looked at
-  pub past : ledgerOf (set (set twoImage 0 1) 28 5) ≡ ledger (hill 300 513 Open ∷ [])
+  pub past : ledgerOf (set (set twoImage 0 1) 28 6) ≡ ledger (hill 300 513 Open ∷ [])
   -- what can't be read stands for a ledger with one leg too many; a refusal leaves the image
   pub stands : ledgerOf [] .count ≡ 129
   pub left : ledgerAfter (7 ∷ []) 60 (ledger (hill 300 513 Open ∷ [])) 1 ≡ 7 ∷ []
@@ -45,7 +45,7 @@ cases =
       read = refl;
       put = refl;
       standings = refl;
-      back = (refl, refl, refl, refl);
+      back = (refl, refl, refl, refl, refl);
       short = refl;
       many = refl;
       stray = refl;

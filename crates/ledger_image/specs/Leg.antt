@@ -1,4 +1,5 @@
--- A leg in an image, 15 bytes: source 4, destination 4, seq 2, ticks 2, standing 1 (0 open, 1 acknowledged, 2 refused, 3 undeliverable, 4 timed out),
+-- A leg in an image, 15 bytes: source 4, destination 4, seq 2, ticks 2, standing 1 (0 open, 1 acknowledged, 2 refused, 3 undeliverable, 4 timed out,
+-- 5 waiting),
 -- then the reason of a refusal: set 1, code 1.
 use Prim.Native.Nat.{ℕ, _+_}
 use mathlib.Core.Bool.{Bool, not, _&&_, _||_, cond}
@@ -7,7 +8,7 @@ use lib.Dec.{eqb, ltb}
 use lib.ListN.{getD}
 use Rattle.buffer.specs.Bytes.{wordAt, wordBytes}
 use Rattle.ledger.specs.declared.Standing.{Standing}
-use Rattle.ledger.specs.declared.Standing.the-variants.{Open, Acknowledged, Refused, Undeliverable, TimedOut}
+use Rattle.ledger.specs.declared.Standing.the-variants.{Open, Acknowledged, Refused, Undeliverable, TimedOut, Waiting}
 use Rattle.ledger.specs.declared.Leg.{Leg}
 use Rattle.address_bytes.specs.Wide.{addressBytes, addressIn}
 
@@ -20,6 +21,7 @@ standingBytes Acknowledged = 1 ∷ 0 ∷ 0 ∷ []
 standingBytes (Refused set code) = 2 ∷ set ∷ code ∷ []
 standingBytes Undeliverable = 3 ∷ 0 ∷ 0 ∷ []
 standingBytes TimedOut = 4 ∷ 0 ∷ 0 ∷ []
+standingBytes Waiting = 5 ∷ 0 ∷ 0 ∷ []
 
 -- the standing that three bytes stand for
 unfoldable pub standingOf : ℕ → ℕ → ℕ → Standing
@@ -28,11 +30,16 @@ standingOf kind set code =
     (cond (eqb kind 1) Acknowledged
     (cond (eqb kind 2) (Refused set code)
     (cond (eqb kind 3) Undeliverable
-    TimedOut)))
+    (cond (eqb kind 4) TimedOut
+    Waiting))))
 
--- three bytes that stand for none: above 4, or a set or a code beside anything but a refusal
+-- the highest number of a standing
+abbrev pub lastStanding : ℕ
+lastStanding = 5
+
+-- three bytes that stand for none: above that, or a set or a code beside anything but a refusal
 unfoldable pub strayStanding : ℕ → ℕ → ℕ → Bool
-strayStanding kind set code = ltb 4 kind || (not (eqb kind 2) && not (eqb set 0 && eqb code 0))
+strayStanding kind set code = ltb lastStanding kind || (not (eqb kind 2) && not (eqb set 0 && eqb code 0))
 
 -- ---- the leg
 

@@ -7,6 +7,9 @@ ghost use Prim.Native.Nat.{_+_, _≤_};
 ghost use lib.ListN.{length};
 ghost use Rattle.ledger_image.specs.Leg.{standingBytes, standingOf, strayStanding, legBytes, legIn, strayLegIn};
 
+// The highest number of a standing.
+const LAST_STANDING: u8 = 5;
+
 // The standing that three bytes stand for.
 fn standing_of(kind: u8, set: u8, code: u8) -> Standing
     ensures { λ r. ⌜ r ≡ standingOf kind set code ⌝ }
@@ -16,7 +19,8 @@ fn standing_of(kind: u8, set: u8, code: u8) -> Standing
         1 => Standing::Acknowledged,
         2 => Standing::Refused(set, code),
         3 => Standing::Undeliverable,
-        _ => Standing::TimedOut,
+        4 => Standing::TimedOut,
+        _ => Standing::Waiting,
     }
 }
 
@@ -24,7 +28,7 @@ fn standing_of(kind: u8, set: u8, code: u8) -> Standing
 fn stray_standing(kind: u8, set: u8, code: u8) -> bool
     ensures { λ r. ⌜ r ≡ strayStanding kind set code ⌝ }
 {
-    if 4 < kind {
+    if LAST_STANDING < kind {
         return true;
     }
     if kind == 2 {
@@ -73,6 +77,7 @@ fn standing_bytes(s: Standing) -> [u8; 3]
         Standing::Refused(set, code) => [2, set, code],
         Standing::Undeliverable => [3, 0, 0],
         Standing::TimedOut => [4, 0, 0],
+        Standing::Waiting => [5, 0, 0],
     }
 }
 

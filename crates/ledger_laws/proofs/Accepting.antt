@@ -85,7 +85,7 @@ module _ (l : Ledger) (f : List ℕ) (arrival : Port) (t : Table) (ticks : ℕ) 
       let p = and-left (isOpen (g .standing) && sameAddress (g .source) (fieldsOf f .source)) _ e in
       record {
         counts = h;
-        waits = and-left (isOpen (g .standing)) _ p;
+        is-open = and-left (isOpen (g .standing)) _ p;
         source = same-eq _ _ (and-right (isOpen (g .standing)) _ p);
         number = eqb-true _ _ (and-right (isOpen (g .standing) && sameAddress (g .source) (fieldsOf f .source)) _ e);
       }
@@ -93,7 +93,7 @@ module _ (l : Ledger) (f : List ℕ) (arrival : Port) (t : Table) (ticks : ℕ) 
   is-busy : (k : ℕ) → Busy l f arrival t ticks k → busyAt k ≡ true
   unfolding isOpenFromAt isOpenFrom
   is-busy k b =
-      and-both (and-both (b .waits) (ap (sameAddress (legAt l k .source)) (sym (b .source)) ∙ same-refl (legAt l k .source)))
+      and-both (and-both (b .is-open) (ap (sameAddress (legAt l k .source)) (sym (b .source)) ∙ same-refl (legAt l k .source)))
       (eq-eqb _ _ (b .number))
 
   none-busy : anyBelow busyAt (l .count) ≡ false → (k : ℕ) → Busy l f arrival t ticks k → ⊥

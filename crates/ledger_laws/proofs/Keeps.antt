@@ -5,7 +5,7 @@ use mathlib.Core.Bool.{Bool, true, false, cond}
 use mathlib.Core.List.{List}
 use native.Mathlib.Omega.{arith}
 use native.Mathlib.Decide.{decLt, ℕ-discrete}
-use lib.Dec.{leb, ltb}
+use lib.Dec.{eqb, leb, ltb}
 use lib.ListN.{drop}
 use borrow.Author.Tests.{ltb-true, ltb-false, lt-ltb, leb-false, eq-eqb}
 use Rattle.lists.specs.Places.{sameAt, repeatAt, repeats}
@@ -21,46 +21,94 @@ use Rattle.envelope.specs.Frame.{destinationsOffset, fieldsOf, destinationAt}
 use Rattle.envelope.proofs.Laws.{accepted, Ranged, ranged}
 use Rattle.table.specs.declared.Table.{Table}
 use Rattle.table.specs.Table.{chooseOf}
-use Rattle.ledger.specs.declared.Standing.the-variants.{Open, Undeliverable, TimedOut}
+use Rattle.ledger.specs.declared.Standing.the-variants.{Open, Undeliverable, TimedOut, Waiting}
 use Rattle.ledger.specs.declared.Leg.{Leg}
 use Rattle.ledger.specs.declared.Ledger.{Ledger}
 use Rattle.ledger.specs.Rules.{withStanding, legAt, isOpen, alike, ticksObey, legObeys, obeys}
 use Rattle.ledger.proofs.Laws.{right, Obedient}
 use Rattle.ledger_answer.specs.declared.Reply.{Reply}
 use Rattle.ledger_answer.specs.declared.Reply.the-variants.{Ack, Nak}
-use Rattle.ledger_answer.specs.Answer.{standingFor, settled, withLeg, answeredPlace, answerRefusal, answerOf}
+use Rattle.ledger_answer.specs.Answer.{standingFor, settled, waits, answered, withLeg, answeredAt, answeredPlace, answerRefusal, answerOf}
 use Rattle.ledger_tick.specs.Tick.{tickedLeg, tickedLedger, tickRefusal, tickOf}
 use Rattle.ledger_clear.specs.Clear.{closeUp, clearRefusal, clearOf}
 use Rattle.ledger_accept.specs.Accept.{isOpenFrom, isOpenFromAt, isUnrouted, legFor, legForAt, withLegs, acceptRefusal, acceptOf}
 use Rattle.ledger_accept.proofs.Laws.{Roomy}
 use Rattle.ledger_laws.specs.Promises.{Whole}
-use Rattle.ledger_laws.proofs.Rules.{alike-is, is-alike, not-so, leg-obeys, apart-at, obeys-from}
+use Rattle.ledger_laws.proofs.Rules.{open-for, alike-is, is-alike, not-so, leg-obeys, apart-at, obeys-from}
 use Rattle.ledger_laws.proofs.Places.{answer-rules, answer-found, answer-after, answer-at, answer-other, tick-rules, tick-after, tick-at, clear-rules, clear-within, clear-after, clear-before, clear-moved, frame-taken, accept-call, accept-rules, accept-quiet-after, accept-room, accept-after, accept-before, accept-new}
 
--- a leg that is not open is alike to none
-settled-first : (g h : Leg) → isOpen (g .standing) ≡ false → alike g h ≡ false
-unfolding alike
-settled-first g h e = rw e
+-- a leg after a call: the same but for its ticks and its standing, and open only if it was open before
+record Narrower (g h : Leg) : Type 0 where
+  source : h .source ≡ g .source
+  destination : h .destination ≡ g .destination
+  number : h .seq .0 ≡ g .seq .0
+  was-open : isOpen (h .standing) ≡ true → isOpen (g .standing) ≡ true
 
-settled-second : (g h : Leg) → isOpen (h .standing) ≡ false → alike g h ≡ false
-settled-second g h e = not-so (alike g h) (isOpen (h .standing)) (λ a. alike-is g h a .second .is-open) e
+-- legs that were not alike are not alike after it
+still-apart : (g g' h h' : Leg) → Narrower g g' → Narrower h h' → alike g h ≡ false → alike g' h' ≡ false
+still-apart g g' h h' m n e =
+    not-so (alike g' h') (alike g h)
+    (λ t.
+    let a = alike-is g' h' t in
+    is-alike g h (record {
+      first = m .was-open (a .first);
+      second = record {
+        is-open = n .was-open (a .second .is-open);
+        from = sym (n .source) ∙ a .second .from ∙ m .source;
+        to = sym (n .destination) ∙ a .second .to ∙ m .destination;
+        numbered = sym (n .number) ∙ a .second .numbered ∙ m .number;
+      };
+    }))
+    e
+
+-- and a leg that was right is right after it, if its ticks are
+right-after : (g h : Leg) → Narrower g h → legObeys g ≡ true → (ticksObey g ≡ true → ticksObey h ≡ true) → legObeys h ≡ true
+right-after g h n e f =
+    let p = right g e in
+    leg-obeys h (record { ticks = f (p .ticks); source = ap inRange (n .source) ∙ p .source; destination = ap inRange (n .destination) ∙ p .destination; seq = rw (n .number) (p .seq) })
+
+same-narrower : (g h : Leg) → h ≡ g → Narrower g h
+same-narrower g h e =
+    record { source = ap (λ (y : Leg). y .source) e; destination = ap (λ (y : Leg). y .destination) e; number = ap (λ (y : Leg). y .seq .0) e; was-open = λ o. ap (λ (y : Leg). isOpen (y .standing)) (sym e) ∙ o }
 
 -- ---- answer
 
-reply-settles : (r : Reply) → isOpen (standingFor r) ≡ false
+pub reply-settles : (r : Reply) → isOpen (standingFor r) ≡ false
 unfolding standingFor isOpen
 reply-settles Ack = refl
 reply-settles (Nak set code) = refl
 
-settled-right : (r : Reply) (g : Leg) → legObeys g ≡ true → legObeys (settled r g) ≡ true
-unfolding settled ticksObey
-settled-right r g h =
-    let p = right g h in
-    leg-obeys (settled r g) (record { ticks = rw (reply-settles r) refl; source = p .source; destination = p .destination; seq = p .seq })
+-- what a reply leaves of a leg's fields
+module _ {A : Type 0} (field : Leg → A) (r : Reply) (g : Leg) where
+  answered-field : field (withStanding g (g .ticks) Waiting) ≡ field g → field (settled r g) ≡ field g → field (answered r g) ≡ field g
+  unfolding answered
+  answered-field a b = go (waits r)
+    where
+      go : (x : Bool) → field (cond x (withStanding g (g .ticks) Waiting) (settled r g)) ≡ field g
+      go true = a
+      go false = b
 
-settled-closed : (r : Reply) (g : Leg) → isOpen (settled r g .standing) ≡ false
+answered-narrower : (r : Reply) (g : Leg) → isOpen (g .standing) ≡ true → Narrower g (answered r g)
 unfolding settled
-settled-closed r g = reply-settles r
+answered-narrower r g o =
+    record {
+      source = answered-field (λ (y : Leg). y .source) r g refl refl;
+      destination = answered-field (λ (y : Leg). y .destination) r g refl refl;
+      number = answered-field (λ (y : Leg). y .seq .0) r g refl refl;
+      was-open = λ e. o;
+    }
+
+-- an open leg has ticks left, so it may go on waiting; a settled one has none
+answered-ticks : (r : Reply) (g : Leg) → isOpen (g .standing) ≡ true → ticksObey g ≡ true → ticksObey (answered r g) ≡ true
+unfolding answered settled ticksObey isOpen
+answered-ticks r g o h = go (waits r)
+  where
+    go : (x : Bool) → ticksObey (cond x (withStanding g (g .ticks) Waiting) (settled r g)) ≡ true
+    go true = ap (λ (b : Bool). cond b (ltb 0 (g .ticks)) (eqb (g .ticks) 0)) (sym o) ∙ h
+    go false = ap (λ (b : Bool). cond {A = Bool} b false true) (reply-settles r)
+
+answered-right : (r : Reply) (g : Leg) → isOpen (g .standing) ≡ true → legObeys g ≡ true → legObeys (answered r g) ≡ true
+answered-right r g o h = right-after g (answered r g) (answered-narrower r g o) h (answered-ticks r g o)
 
 module _ (l : Ledger) (by to : Address) (seq : Seq) (reply : Reply) (whole : Whole l) (z : answerRefusal l by to seq ≡ 0) where
   abbrev after-answer : Ledger
@@ -73,22 +121,28 @@ module _ (l : Ledger) (by to : Address) (seq : Seq) (reply : Reply) (whole : Who
   unfolding withLeg
   same-count = ap (λ (m : Ledger). m .count) (answer-after l by to seq reply whole z)
 
+  pub answer-open : isOpen (legAt l k .standing) ≡ true
+  unfolding answeredAt
+  answer-open = open-for to by seq (legAt l k) (answer-found l by to seq reply whole z .passes) .is-open
+
+  narrower : (i : ℕ) → Narrower (legAt l i) (legAt after-answer i)
+  narrower i = go (ℕ-discrete i k)
+    where
+      go : Dec (i ≡ k) → Narrower (legAt l i) (legAt after-answer i)
+      go (yes e) = rw (e, answer-at l by to seq reply whole z) (answered-narrower reply (legAt l k) answer-open)
+      go (no ne) = same-narrower (legAt l i) (legAt after-answer i) (answer-other l by to seq reply whole z i ne)
+
   each : (i : ℕ) → i < l .count → legObeys (legAt after-answer i) ≡ true
   each i h = go (ℕ-discrete i k)
     where
       go : Dec (i ≡ k) → legObeys (legAt after-answer i) ≡ true
-      go (yes e) = rw (e, answer-at l by to seq reply whole z) (settled-right reply (legAt l k) (answer-rules l by to seq reply whole z .each k (answer-found l by to seq reply whole z .below)))
+      go (yes e) = rw (e, answer-at l by to seq reply whole z) (answered-right reply (legAt l k) answer-open (answer-rules l by to seq reply whole z .each k (answer-found l by to seq reply whole z .below)))
       go (no ne) = rw (answer-other l by to seq reply whole z i ne) (answer-rules l by to seq reply whole z .each i h)
 
   apart : (i j : ℕ) → i < l .count → j < i → alike (legAt after-answer i) (legAt after-answer j) ≡ false
-  apart i j h m = go (ℕ-discrete i k) (ℕ-discrete j k)
-    where
-      go : Dec (i ≡ k) → Dec (j ≡ k) → alike (legAt after-answer i) (legAt after-answer j) ≡ false
-      go (yes e) d = settled-first (legAt after-answer i) (legAt after-answer j) (rw (e, answer-at l by to seq reply whole z) (settled-closed reply (legAt l k)))
-      go (no ne) (yes e) = settled-second (legAt after-answer i) (legAt after-answer j) (rw (e, answer-at l by to seq reply whole z) (settled-closed reply (legAt l k)))
-      go (no ne) (no me) =
-          rw (answer-other l by to seq reply whole z i ne, answer-other l by to seq reply whole z j me)
-          (apart-at l (answer-rules l by to seq reply whole z) i j h (omega arith) (λ e. omega arith))
+  apart i j h m =
+      still-apart (legAt l i) (legAt after-answer i) (legAt l j) (legAt after-answer j) (narrower i) (narrower j)
+      (apart-at l (answer-rules l by to seq reply whole z) i j h (omega arith) (λ e. omega arith))
 
   pub answer-keeps : obeys after-answer ≡ true
   answer-keeps =
@@ -98,13 +152,13 @@ module _ (l : Ledger) (by to : Address) (seq : Seq) (reply : Reply) (whole : Who
 
 -- by the standing and the ticks left
 module _ {A : Type 0} (field : Leg → A) (g : Leg) where
-  ticked-field : field (record { source = g .source; destination = g .destination; seq = g .seq; ticks = 0; standing = TimedOut }) ≡ field g
+  ticked-field : field (withStanding g 0 TimedOut) ≡ field g
       → field (withStanding g (g .ticks - 1) (g .standing)) ≡ field g → field (tickedLeg g) ≡ field g
   unfolding tickedLeg
   ticked-field a b = go (isOpen (g .standing)) (leb (g .ticks) 1)
     where
       go : (x y : Bool)
-          → field (cond x (cond y (record { source = g .source; destination = g .destination; seq = g .seq; ticks = 0; standing = TimedOut }) (record { source = g .source; destination = g .destination; seq = g .seq; ticks = g .ticks - 1; standing = g .standing })) g) ≡ field g
+          → field (cond x (cond y (withStanding g 0 TimedOut) (withStanding g (g .ticks - 1) (g .standing))) g) ≡ field g
       go true true = a
       go true false = b
       go false y = refl
@@ -114,26 +168,19 @@ still : (g : Leg) → isOpen (tickedLeg g .standing) ≡ true → isOpen (g .sta
 unfolding tickedLeg
 still g h = go (isOpen (g .standing)) refl h
   where
-    go : (x : Bool) → isOpen (g .standing) ≡ x → isOpen (cond x (cond (leb (g .ticks) 1) (record { source = g .source; destination = g .destination; seq = g .seq; ticks = 0; standing = TimedOut }) (record { source = g .source; destination = g .destination; seq = g .seq; ticks = g .ticks - 1; standing = g .standing })) g .standing) ≡ true → x ≡ true
+    go : (x : Bool) → isOpen (g .standing) ≡ x → isOpen (cond x (cond (leb (g .ticks) 1) (withStanding g 0 TimedOut) (withStanding g (g .ticks - 1) (g .standing))) g .standing) ≡ true → x ≡ true
     go true e t = refl
     go false e t = sym e ∙ t
 
 -- and is the same but for its ticks
-ticked-alike : (g h : Leg) → alike (tickedLeg g) (tickedLeg h) ≡ true → alike g h ≡ true
-ticked-alike g h e =
-    let a = alike-is (tickedLeg g) (tickedLeg h) e in
-    let source : (x : Leg) → tickedLeg x .source ≡ x .source = λ x. ticked-field (λ (y : Leg). y .source) x refl refl in
-    let destination : (x : Leg) → tickedLeg x .destination ≡ x .destination = λ x. ticked-field (λ (y : Leg). y .destination) x refl refl in
-    let refusal : (x : Leg) → tickedLeg x .seq .0 ≡ x .seq .0 = λ x. ticked-field (λ (y : Leg). y .seq .0) x refl refl in
-    is-alike g h (record {
-      first = still g (a .first);
-      second = record {
-        is-open = still h (a .second .is-open);
-        from = sym (source h) ∙ a .second .from ∙ source g;
-        to = sym (destination h) ∙ a .second .to ∙ destination g;
-        numbered = sym (refusal h) ∙ a .second .numbered ∙ refusal g;
-      };
-    })
+ticked-narrower : (g : Leg) → Narrower g (tickedLeg g)
+ticked-narrower g =
+    record {
+      source = ticked-field (λ (y : Leg). y .source) g refl refl;
+      destination = ticked-field (λ (y : Leg). y .destination) g refl refl;
+      number = ticked-field (λ (y : Leg). y .seq .0) g refl refl;
+      was-open = still g;
+    }
 
 -- a leg that a tick leaves open has ticks left, and one that it ends has none
 ticks-right : (g : Leg) → ticksObey g ≡ true → ticksObey (tickedLeg g) ≡ true
@@ -141,20 +188,13 @@ unfolding ticksObey tickedLeg isOpen
 ticks-right g h = go (isOpen (g .standing)) refl (leb (g .ticks) 1) refl
   where
     go : (x : Bool) → isOpen (g .standing) ≡ x → (y : Bool) → leb (g .ticks) 1 ≡ y
-        → ticksObey (cond x (cond y (record { source = g .source; destination = g .destination; seq = g .seq; ticks = 0; standing = TimedOut }) (record { source = g .source; destination = g .destination; seq = g .seq; ticks = g .ticks - 1; standing = g .standing })) g) ≡ true
+        → ticksObey (cond x (cond y (withStanding g 0 TimedOut) (withStanding g (g .ticks - 1) (g .standing))) g) ≡ true
     go true e true f = refl
     go true e false f = rw (e, lt-ltb 0 (g .ticks - 1) (omega (arith, leb-false (g .ticks) 1 f)))
     go false e y f = h
 
 ticked-right : (g : Leg) → legObeys g ≡ true → legObeys (tickedLeg g) ≡ true
-ticked-right g h =
-    let p = right g h in
-    leg-obeys (tickedLeg g) (record {
-      ticks = ticks-right g (p .ticks);
-      source = ap inRange (ticked-field (λ (y : Leg). y .source) g refl refl) ∙ p .source;
-      destination = ap inRange (ticked-field (λ (y : Leg). y .destination) g refl refl) ∙ p .destination;
-      seq = rw (ticked-field (λ (y : Leg). y .seq .0) g refl refl) (p .seq);
-    })
+ticked-right g h = right-after g (tickedLeg g) (ticked-narrower g) h (ticks-right g)
 
 module _ (l : Ledger) (whole : Whole l) (z : tickRefusal l ≡ 0) where
   tick-count : tickOf l .ledger .count ≡ l .count
@@ -171,7 +211,7 @@ module _ (l : Ledger) (whole : Whole l) (z : tickRefusal l ≡ 0) where
       (λ i j h m.
       let k : i < l .count = rw tick-count at h in
       rw (tick-at l whole z i k, tick-at l whole z j (omega arith))
-      (not-so (alike (tickedLeg (legAt l i)) (tickedLeg (legAt l j))) _ (ticked-alike (legAt l i) (legAt l j)) (apart-at l o i j k (omega arith) (λ e. omega arith))))
+      (still-apart (legAt l i) (tickedLeg (legAt l i)) (legAt l j) (tickedLeg (legAt l j)) (ticked-narrower (legAt l i)) (ticked-narrower (legAt l j)) (apart-at l o i j k (omega arith) (λ e. omega arith))))
 
 -- ---- clear
 

@@ -4,3 +4,4 @@ pub mod Keeps
 pub mod Promises
 pub mod Numbers
 pub mod Accepting
+pub mod Waiting

@@ -26,7 +26,7 @@ use Rattle.ledger.specs.declared.Ledger.{Ledger}
 use Rattle.ledger.specs.Rules.{noLeg, legAt, obeys}
 use Rattle.ledger.proofs.Laws.{Obedient, obedient}
 use Rattle.ledger_answer.specs.declared.Reply.{Reply}
-use Rattle.ledger_answer.specs.Answer.{settled, withLeg, answeredAt, answeredPlace, answerRefusal, answerOf}
+use Rattle.ledger_answer.specs.Answer.{answered, withLeg, answeredAt, answeredPlace, answerRefusal, answerOf}
 use Rattle.ledger_tick.specs.Tick.{tickedLeg, tickedLedger, tickRefusal, tickOf}
 use Rattle.ledger_clear.specs.Clear.{closeUp, settledAt, clearRefusal, clearOf}
 use Rattle.ledger_accept.specs.Accept.{legForAt, withLegs, callRefusal, acceptRefusal, acceptOf}
@@ -47,21 +47,21 @@ module _ (l : Ledger) (by to : Address) (seq : Seq) (reply : Reply) (whole : Who
   abbrev k : ℕ
   k = answeredPlace l by to seq
 
-  pub answer-after : answerOf l by to seq reply .ledger ≡ withLeg l k (settled reply (legAt l k))
+  pub answer-after : answerOf l by to seq reply .ledger ≡ withLeg l k (answered reply (legAt l k))
   unfolding answerOf
   answer-after = taken _ _ z
 
   pub answer-whole : Whole (answerOf l by to seq reply .ledger)
   unfolding withLeg
-  answer-whole = rw answer-after (length-set (l .legs) k (settled reply (legAt l k)) ∙ whole)
+  answer-whole = rw answer-after (length-set (l .legs) k (answered reply (legAt l k)) ∙ whole)
 
-  pub answer-at : legAt (answerOf l by to seq reply .ledger) k ≡ settled reply (legAt l k)
+  pub answer-at : legAt (answerOf l by to seq reply .ledger) k ≡ answered reply (legAt l k)
   unfolding withLeg legAt elementAt
-  answer-at = rw answer-after (getD-set-same (l .legs) k (settled reply (legAt l k)) noLeg (omega (arith, answer-found .below, answer-rules .few, whole)))
+  answer-at = rw answer-after (getD-set-same (l .legs) k (answered reply (legAt l k)) noLeg (omega (arith, answer-found .below, answer-rules .few, whole)))
 
   pub answer-other : (j : ℕ) → (j ≡ k → ⊥) → legAt (answerOf l by to seq reply .ledger) j ≡ legAt l j
   unfolding withLeg legAt elementAt
-  answer-other j ne = rw answer-after (getD-set-other (l .legs) k j (settled reply (legAt l k)) noLeg ne)
+  answer-other j ne = rw answer-after (getD-set-other (l .legs) k j (answered reply (legAt l k)) noLeg ne)
 
 -- ---- tick
 

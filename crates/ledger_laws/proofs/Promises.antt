@@ -11,7 +11,7 @@ use lib.ListN.{drop}
 use borrow.Author.Tests.{le-leb, ltb-true, lt-ltb, eqb-true, eq-eqb, ne-eqb}
 use Rattle.lists.specs.Places.{anyBelow}
 use Rattle.lists.specs.Refusals.{refuse, among}
-use Rattle.lists.proofs.Bools.{both-ways}
+use Rattle.lists.proofs.Bools.{and-left, and-right, both-ways}
 use Rattle.lists.proofs.Places.{any-found}
 use Rattle.lists.proofs.Refusals.{taken, refused, either-way}
 use Rattle.address.specs.declared.Port.{Port}
@@ -23,13 +23,14 @@ use Rattle.table.specs.declared.Choice.{Choice}
 use Rattle.table.specs.declared.Choice.the-variants.{Local, Out, Refused}
 use Rattle.table.specs.declared.Table.{Table}
 use Rattle.table.specs.Table.{tableInRange, callInRange, isOwn, hasRoute, outPort, outChoice, chooseOf, choiceRefusal}
-use Rattle.ledger.specs.declared.Standing.the-variants.{Open, Undeliverable, TimedOut}
+use Rattle.ledger.specs.declared.Standing.the-variants.{Open, Undeliverable, TimedOut, Waiting}
 use Rattle.ledger.specs.declared.Leg.{Leg}
 use Rattle.ledger.specs.declared.Ledger.{Ledger}
 use Rattle.ledger.specs.Rules.{withStanding, legAt, isOpen, isOpenLeg, ticksObey, legObeys, obeys}
 use Rattle.ledger.proofs.Laws.{right, obedient}
 use Rattle.ledger_answer.specs.declared.Reply.{Reply}
-use Rattle.ledger_answer.specs.Answer.{standingFor, settled, withLeg, answeredAt, answeredPlace, answerRefusal, answerOf}
+use Rattle.ledger_answer.specs.declared.Reply.the-variants.{Ack, Nak}
+use Rattle.ledger_answer.specs.Answer.{standingFor, settled, waits, answered, withLeg, answeredAt, answeredPlace, answerRefusal, answerOf}
 use Rattle.ledger_tick.specs.Tick.{timesOut, tickedLeg, tickedLedger, tickRefusal, tickOf}
 use Rattle.ledger_clear.specs.Clear.{settledAt, clearRefusal, clearOf}
 use Rattle.ledger_accept.specs.Accept.{callRefusal, acceptRefusal, isUnrouted, legFor, legForAt, acceptOf}
@@ -37,7 +38,7 @@ use Rattle.ledger_laws.specs.Calls.{Call, accepting, answering, ticking,
 use Rattle.ledger_laws.specs.Promises.{Whole, PlacesKept, AsWas, TwoAlike, KeepsRules, RulesAre, RulesKept, brokenRefusal, RulesBroken, Named, Answers, AnswerCloses, Ticks, TickCounts, Clears, ClearRemoves, Settled, ClearRefuses, Adds, AcceptAdds}
 use Rattle.ledger_laws.proofs.Rules.{any-nowhere, open-for, is-for, Alike, alike-is, is-alike, leg-obeys, apart-at, obeys-from}
 use Rattle.ledger_laws.proofs.Places.{answer-whole, tick-whole, clear-whole, accept-whole, answer-found, answer-at, answer-other, tick-at, tick-past, clear-before, clear-moved, clear-last, clear-past, accept-call, accept-refusal, accept-before, accept-new, accept-past}
-use Rattle.ledger_laws.proofs.Keeps.{answer-keeps, tick-keeps, clear-count, clear-keeps, in-order, accept-count, accept-keeps}
+use Rattle.ledger_laws.proofs.Keeps.{answer-open, answer-keeps, tick-keeps, clear-count, clear-keeps, in-order, accept-count, accept-keeps}
 
 -- a test that cannot hold does not
 no-true : {b : Bool} → (b ≡ true → ⊥) → b ≡ false
@@ -143,14 +144,33 @@ rules-are l = (keeps, λ k. obeys-from l (k .few) (each k) (λ i j h m. no-true 
     each : KeepsRules l → (i : ℕ) → i < l .count → legObeys (legAt l i) ≡ true
     each k i m = leg-obeys (legAt l i) (record { ticks = ticks-right (legAt l i) (k .lasting i m) (k .ended i m); source = k .source i m; destination = k .destination i m; seq = k .number i m })
 
+-- ---- answer
+
+-- a reply that does not say wait settles; 2 and 13 alone say it
+settles : (r : Reply) → waits r ≡ false → (g : Leg) → answered r g ≡ settled r g
+unfolding answered
+settles r e g = rw e
+
+no-wait : (set code : ℕ) → ((set ≡ 2) × (code ≡ 13) → ⊥) → waits (Nak set code) ≡ false
+unfolding waits
+no-wait set code other = no-true (λ e. other (eqb-true set 2 (and-left (eqb set 2) _ e), eqb-true code 13 (and-right (eqb set 2) _ e)))
+
+pub waits-on : (g : Leg) → answered (Nak 2 13) g ≡ withStanding g (g .ticks) Waiting
+unfolding answered waits
+waits-on g = refl
+
+marked : (g : Leg) → isOpen (answered (Nak 2 13) g .standing) ≡ true
+unfolding answered waits isOpen
+marked g = refl
+
 -- demand 2, of any answer to a ledger that keeps its rules
 module _ (l : Ledger) (by to : Address) (seq : Seq) (reply : Reply) (whole : Whole l) (rules : obeys l ≡ true) where
   -- the test for the leg that an answer names, both ways
   named-is : (k : ℕ) → Named l by to seq reply k → isOpenLeg to by seq (legAt l k) ≡ true
-  named-is k n = is-for to by seq (legAt l k) (record { is-open = n .waits; from = n .source; to = n .destination; numbered = n .number })
+  named-is k n = is-for to by seq (legAt l k) (record { is-open = n .is-open; from = n .source; to = n .destination; numbered = n .number })
 
   is-named : (k : ℕ) → k < l .count → isOpenLeg to by seq (legAt l k) ≡ true → Named l by to seq reply k
-  is-named k h e = let o = open-for to by seq (legAt l k) e in record { counts = h; waits = o .is-open; source = o .from; destination = o .to; number = o .numbered }
+  is-named k h e = let o = open-for to by seq (legAt l k) e in record { counts = h; is-open = o .is-open; source = o .from; destination = o .to; number = o .numbered }
 
   found : (k : ℕ) → Named l by to seq reply k → answerRefusal l by to seq ≡ 0
   unfolding answerRefusal answeredAt
@@ -164,8 +184,8 @@ module _ (l : Ledger) (by to : Address) (seq : Seq) (reply : Reply) (whole : Who
       go (no ne) =
           absurd (both-ways
           (is-alike (legAt l i) (legAt l j) (record {
-            first = a .waits;
-            second = record { is-open = b .waits; from = b .source ∙ sym (a .source); to = b .destination ∙ sym (a .destination); numbered = b .number ∙ sym (a .number) };
+            first = a .is-open;
+            second = record { is-open = b .is-open; from = b .source ∙ sym (a .source); to = b .destination ∙ sym (a .destination); numbered = b .number ∙ sym (a .number) };
           }))
           (apart-at l (obedient l rules) i j (a .counts) (b .counts) ne))
 
@@ -180,18 +200,37 @@ module _ (l : Ledger) (by to : Address) (seq : Seq) (reply : Reply) (whole : Who
   unfolding answeredAt
   unnamed none = any-nowhere (answeredAt l by to seq) (l .count) (λ i h. no-true (λ e. none i (is-named i h e)))
 
-  -- the leg that is named, settled
-  closed : (k : ℕ) → Named l by to seq reply k → legAt (answerOf l by to seq reply .ledger) k ≡ settled reply (legAt l k)
-  closed k n = rw (← place-is k n) (answer-at l by to seq reply whole (found k n))
+  -- the leg that is named, as the reply leaves it
+  reached : (k : ℕ) → Named l by to seq reply k → legAt (answerOf l by to seq reply .ledger) k ≡ answered reply (legAt l k)
+  reached k n = rw (← place-is k n) (answer-at l by to seq reply whole (found k n))
+
+  -- no leg is closed by a NAK that says wait
+  still-open : reply ≡ Nak 2 13 → (i : ℕ) → isOpen (legAt (answerOf l by to seq reply .ledger) i .standing) ≡ isOpen (legAt l i .standing)
+  unfolding answerOf
+  still-open w i = go (answerRefusal l by to seq) refl
+    where
+      go : (n : ℕ) → answerRefusal l by to seq ≡ n → isOpen (legAt (answerOf l by to seq reply .ledger) i .standing) ≡ isOpen (legAt l i .standing)
+      go (suc n) e = ap (λ (m : Ledger). isOpen (legAt m i .standing)) (refused _ l _ (λ z. omega arith))
+      go zero z = at (ℕ-discrete i (answeredPlace l by to seq))
+        where
+          at : Dec (i ≡ answeredPlace l by to seq) → isOpen (legAt (answerOf l by to seq reply .ledger) i .standing) ≡ isOpen (legAt l i .standing)
+          at (no ne) = ap (λ (g : Leg). isOpen (g .standing)) (answer-other l by to seq reply whole z i ne)
+          at (yes q) =
+              rw q
+              (ap (λ (g : Leg). isOpen (g .standing)) (answer-at l by to seq reply whole z)
+              ∙ ap (λ (r : Reply). isOpen (answered r (legAt l (answeredPlace l by to seq)) .standing)) w
+              ∙ marked (legAt l (answeredPlace l by to seq)) ∙ sym (answer-open l by to seq reply whole z))
 
   answers : Answers l by to seq reply
-  unfolding answerOf answerRefusal withLeg settled standingFor
+  unfolding answerOf answerRefusal withLeg settled standingFor waits
   answers =
       record {
         only-one = only;
         taken = found;
-        acknowledged = λ k n e. closed k n ∙ ap (λ (r : Reply). settled r (legAt l k)) e;
-        refused = λ k set code n e. closed k n ∙ ap (λ (r : Reply). settled r (legAt l k)) e;
+        acknowledged = λ k n e. reached k n ∙ ap (λ (r : Reply). answered r (legAt l k)) e ∙ settles Ack refl (legAt l k);
+        refused = λ k set code n e other. reached k n ∙ ap (λ (r : Reply). answered r (legAt l k)) e ∙ settles (Nak set code) (no-wait set code other) (legAt l k);
+        waiting = λ k n e. reached k n ∙ ap (λ (r : Reply). answered r (legAt l k)) e ∙ waits-on (legAt l k);
+        closes-none = still-open;
         others = λ k j n ne. answer-other l by to seq reply whole (found k n) j (λ e. ne (e ∙ place-is k n));
         count = either-way (λ (m : Ledger). m .count) (answerRefusal l by to seq) refl;
         none = (λ e k n. let z = found k n in omega (arith, z, e), λ none. rw (rules, unnamed none));

@@ -19,7 +19,7 @@ use Rattle.envelope.specs.Refusal.{strayAt, frameRefusal}
 use Rattle.table.specs.declared.Choice.the-variants.{Refused as Unrouted}
 use Rattle.table.specs.declared.Table.{Table}
 use Rattle.table.specs.Table.{tableInRange, chooseOf, choiceRefusal}
-use Rattle.ledger.specs.declared.Standing.the-variants.{Open, Acknowledged, Refused, Undeliverable}
+use Rattle.ledger.specs.declared.Standing.the-variants.{Open, Acknowledged, Refused, Undeliverable, Waiting}
 use Rattle.ledger.specs.declared.Ledger.{Ledger}
 use Rattle.ledger.specs.Rules.{noLeg, withStanding, legAt, isOpen, obeys}
 use Rattle.ledger_answer.specs.declared.Reply.{Reply}
@@ -102,12 +102,13 @@ CallNumbers = (l : Ledger) (c : Call) → OfBytes c → among (refusalOf l c) (c
 
 -- ---- answer
 
--- demand 2: an acknowledgement, or any answer, closes the one open leg with the same source, destination and sequence number, and no other
+-- demand 2: an acknowledgement or a settling NAK closes the one open leg with the same source, destination and sequence number, and no other; a NAK that says
+-- wait (reason set 2, "alerter", with code 13, "wait_ack") closes none, and changes that leg's standing alone
 module _ (l : Ledger) (by to : Address) (seq : Seq) (reply : Reply) where
   -- the leg at a place is the open one that the answer names: `by` answers what `to` sent
   pub record Named (k : ℕ) : Type 0 where
     pub counts : k < l .count
-    pub waits : isOpen (legAt l k .standing) ≡ true
+    pub is-open : isOpen (legAt l k .standing) ≡ true
     pub source : legAt l k .source ≡ to
     pub destination : legAt l k .destination ≡ by
     pub number : legAt l k .seq .0 ≡ seq .0
@@ -116,13 +117,20 @@ module _ (l : Ledger) (by to : Address) (seq : Seq) (reply : Reply) where
     pub only-one : (i j : ℕ) → Named i → Named j → i ≡ j
     pub taken : (k : ℕ) → Named k → answerOf l by to seq reply .refusal ≡ 0
     pub acknowledged : (k : ℕ) → Named k → reply ≡ Ack → legAt (answerOf l by to seq reply .ledger) k ≡ withStanding (legAt l k) 0 Acknowledged
-    pub refused : (k set code : ℕ) → Named k → reply ≡ Nak set code → legAt (answerOf l by to seq reply .ledger) k ≡ withStanding (legAt l k) 0 (Refused set code)
+    pub refused : (k set code : ℕ) → Named k → reply ≡ Nak set code → ((set ≡ 2) × (code ≡ 13) → ⊥) → legAt (answerOf l by to seq reply .ledger) k ≡ withStanding (legAt l k) 0 (Refused set code)
+    pub waiting : (k : ℕ) → Named k → reply ≡ Nak 2 13 → legAt (answerOf l by to seq reply .ledger) k ≡ withStanding (legAt l k) (legAt l k .ticks) Waiting
+    pub closes-none : reply ≡ Nak 2 13 → (i : ℕ) → isOpen (legAt (answerOf l by to seq reply .ledger) i .standing) ≡ isOpen (legAt l i .standing)
     pub others : (k j : ℕ) → Named k → (j ≡ k → ⊥) → legAt (answerOf l by to seq reply .ledger) j ≡ legAt l j
     pub count : answerOf l by to seq reply .ledger .count ≡ l .count
     pub none : (answerOf l by to seq reply .refusal ≡ 64) ↔ ((k : ℕ) → Named k → ⊥)
 
 abbrev pub AnswerCloses : Type 0
 AnswerCloses = (l : Ledger) (by to : Address) (seq : Seq) (reply : Reply) → Whole l → obeys l ≡ true → Answers l by to seq reply
+
+-- twice is once: a second NAK that says wait changes nothing
+abbrev pub TwiceIsOnce : Type 0
+TwiceIsOnce = (l : Ledger) (by to : Address) (seq : Seq) → Whole l
+    → after (after l (answering by to seq (Nak 2 13))) (answering by to seq (Nak 2 13)) ≡ after l (answering by to seq (Nak 2 13))
 
 -- ---- tick
 
@@ -180,7 +188,7 @@ module _ (l : Ledger) (f : List ℕ) (arrival : Port) (t : Table) (ticks : ℕ) 
   -- an open leg at a place has the message's source and number, whatever its destination
   pub record Busy (k : ℕ) : Type 0 where
     pub counts : k < l .count
-    pub waits : isOpen (legAt l k .standing) ≡ true
+    pub is-open : isOpen (legAt l k .standing) ≡ true
     pub source : legAt l k .source ≡ fieldsOf f .source
     pub number : legAt l k .seq .0 ≡ fieldsOf f .seq .0
 

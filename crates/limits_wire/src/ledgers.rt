@@ -21,14 +21,15 @@ use limits_script::taken;
 use table::Table;
 use table::Target;
 
-// A standing by its number: 0 open, 1 acknowledged, 2 refused, 3 undeliverable, else timed out.
+// A standing by its number: 0 open, 1 acknowledged, 2 refused, 3 undeliverable, 4 timed out, else waiting.
 fn standing(n: u16) -> Standing {
     match n {
         0 => Standing::Open,
         1 => Standing::Acknowledged,
         2 => Standing::Refused(0, 0),
         3 => Standing::Undeliverable,
-        _ => Standing::TimedOut,
+        4 => Standing::TimedOut,
+        _ => Standing::Waiting,
     }
 }
 
@@ -40,6 +41,7 @@ fn standing_number(s: Standing) -> u64 {
         Standing::Refused(set, code) => 2 + 1000 * (set as u64) + 1000000 * (code as u64),
         Standing::Undeliverable => 3,
         Standing::TimedOut => 4,
+        Standing::Waiting => 5,
     }
 }
 

@@ -32,8 +32,8 @@ mul-g c = search needs
 element-copy-out-g : tie.Need-element-copy-out-g
 element-copy-out-g c = omega (arith, obedient (c .before .before .before .before .args .t1) (told-yes (c .before .before .before .obeys .ensures) (c .before .before .if1 .left)) .few)
 
-settled-requires : tie.Need-settled-requires
-settled-requires c κs = search needs
+answered-requires : tie.Need-answered-requires
+answered-requires c κs = search needs
 
 mul-h : tie.Need-mul-h
 mul-h c = search needs
@@ -45,7 +45,7 @@ returns-3 : tie.Need-returns-3
 unfolding legAt elementAt
 returns-3 c =
     answer-0 (c .before .before .before .before .before .before .args .t1) (c .before .before .before .before .before .before .args .by) (c .before .before .before .before .before .before .args .to) (c .before .before .before .before .before .before .args .seq) (c .before .before .before .before .before .before .args .reply) (told-yes (c .before .before .before .before .before .obeys .ensures) (c .before .before .before .before .if1 .left))
-    (c .before .before .before .answered-place .ensures) (c .before .before .if2 .left) (c .settled .ensures)
+    (c .before .before .before .answered-place .ensures) (c .before .before .if2 .left) (c .answered .ensures)
 
 pub answer-spec : {M : Type 1} → statement M
 answer-spec =
@@ -58,7 +58,7 @@ answer-spec =
     returns-2
     mul-g
     element-copy-out-g
-    settled-requires
+    answered-requires
     mul-h
     element-set-from-h
     returns-3)

@@ -1,34 +1,64 @@
--- `ledger::rules::is_open` meets its contract: a standing whose tag is not the first variant's is not open.
-use mathlib.Core.Path.{_≡_, refl}
-use mathlib.Core.Bool.{false}
-use mathlib.Core.List.{[], _∷_}
-use borrow.Author.Needs.{needs}
-use denote.Enum.Declared.{tagOf}
-use types.Run.{OneOf, miss}
-use Rattle.ledger.specs.declared.Standing.{Standing}
-use Rattle.ledger.specs.declared.Standing.the-variants.{Open, Acknowledged, Refused, Undeliverable, TimedOut}
+-- `ledger::rules::is_open` meets its contract: by cases on the standing.
 use Rattle.ledger.specs.Rules.{isOpen}
-use Rattle.ledger.proofs.Standing.{the-type}
+use borrow.Author.Needs.{needs}
 use Rattle.ledger.proofs.rules.is_open.Statement.{statement}
 use Rattle.ledger.proofs.rules.is_open.Tie as tie
 
 enum-told : tie.Need-enum-told
 enum-told c = search needs
 
-settled : (s : Standing) → OneOf (1 ∷ 2 ∷ 3 ∷ 4 ∷ []) (tagOf the-type s) → false ≡ isOpen s
-unfolding isOpen
-settled Open k = absurd (miss (1 ∷ 2 ∷ 3 ∷ 4 ∷ []) 0 tt k)
-settled Acknowledged k = refl
-settled (Refused set code) k = refl
-settled Undeliverable k = refl
-settled TimedOut k = refl
+enum-told-2 : tie.Need-enum-told-2
+enum-told-2 c = search needs
+
+enum-told-3 : tie.Need-enum-told-3
+enum-told-3 c = search needs
+
+enum-told-4 : tie.Need-enum-told-4
+enum-told-4 c = search needs
+
+enum-told-5 : tie.Need-enum-told-5
+enum-told-5 c = search needs
+
+enum-told-6 : tie.Need-enum-told-6
+enum-told-6 c = search needs
 
 returns : tie.Need-returns
-returns c = settled (c .before .args .s) (c .match .keys2)
+unfolding isOpen
+returns c = search needs
 
 returns-2 : tie.Need-returns-2
 unfolding isOpen
 returns-2 c = search needs
 
+returns-3 : tie.Need-returns-3
+unfolding isOpen
+returns-3 c = search needs
+
+returns-4 : tie.Need-returns-4
+unfolding isOpen
+returns-4 c = search needs
+
+returns-5 : tie.Need-returns-5
+unfolding isOpen
+returns-5 c = search needs
+
+returns-6 : tie.Need-returns-6
+unfolding isOpen
+returns-6 c = search needs
+
 pub is-open-spec : {M : Type 1} → statement M
-is-open-spec = tie.close (tie.spec enum-told returns returns-2)
+is-open-spec =
+    tie.close
+    (tie.spec
+    enum-told
+    enum-told-2
+    enum-told-3
+    enum-told-4
+    enum-told-5
+    enum-told-6
+    returns
+    returns-2
+    returns-3
+    returns-4
+    returns-5
+    returns-6)

@@ -19,6 +19,9 @@ enum-told-3 c = search needs
 enum-told-4 : tie.Need-enum-told-4
 enum-told-4 c = search needs
 
+enum-told-5 : tie.Need-enum-told-5
+enum-told-5 c = search needs
+
 returns : tie.Need-returns
 unfolding standingBytes
 returns c = rw (c .enum-told .given .1)
@@ -39,6 +42,10 @@ returns-5 : tie.Need-returns-5
 unfolding standingBytes
 returns-5 c = rw (c .enum-told4 .given .1)
 
+returns-6 : tie.Need-returns-6
+unfolding standingBytes
+returns-6 c = rw (c .enum-told5 .given .1)
+
 pub standing-bytes-spec : {M : Type 1} → statement M
 standing-bytes-spec =
     tie.close
@@ -48,8 +55,10 @@ standing-bytes-spec =
     enum-known-s
     enum-told-3
     enum-told-4
+    enum-told-5
     returns
     returns-2
     returns-3
     returns-4
-    returns-5)
+    returns-5
+    returns-6)
