@@ -9,7 +9,7 @@ use lib.Dec.{eqb, leb, ltb}
 use lib.ListN.{drop}
 use borrow.Author.Tests.{ltb-true, ltb-false, lt-ltb, leb-false, eq-eqb}
 use Rattle.lists.specs.Places.{sameAt, repeatAt, repeats}
-use Rattle.lists.proofs.Bools.{and-both, both-ways}
+use Rattle.lists.proofs.Bools.{and-both, both-ways, not-so}
 use Rattle.lists.proofs.Places.{any-false}
 use Rattle.address.specs.declared.Port.{Port}
 use Rattle.address.specs.declared.Seq.{Seq}
@@ -34,7 +34,7 @@ use Rattle.ledger_clear.specs.Clear.{closeUp, clearRefusal, clearOf}
 use Rattle.ledger_accept.specs.Accept.{isOpenFrom, isOpenFromAt, isUnrouted, legFor, legForAt, withLegs, acceptRefusal, acceptOf}
 use Rattle.ledger_accept.proofs.Laws.{Roomy}
 use Rattle.ledger_laws.specs.Promises.{Whole}
-use Rattle.ledger_laws.proofs.Rules.{open-for, alike-is, is-alike, not-so, leg-obeys, apart-at, obeys-from}
+use Rattle.ledger.proofs.Alike.{open-for, alike-is, is-alike, leg-obeys, apart-at, obeys-from}
 use Rattle.ledger_laws.proofs.Places.{answer-rules, answer-found, answer-after, answer-at, answer-other, tick-rules, tick-after, tick-at, clear-rules, clear-within, clear-after, clear-before, clear-moved, frame-taken, accept-call, accept-rules, accept-quiet-after, accept-room, accept-after, accept-before, accept-new}
 
 -- a leg after a call: the same but for its ticks and its standing, and open only if it was open before

@@ -1,4 +1,3 @@
-pub mod Rules
 pub mod Places
 pub mod Keeps
 pub mod Promises

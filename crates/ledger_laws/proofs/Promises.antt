@@ -11,8 +11,8 @@ use lib.ListN.{drop}
 use borrow.Author.Tests.{le-leb, ltb-true, lt-ltb, eqb-true, eq-eqb, ne-eqb}
 use Rattle.lists.specs.Places.{anyBelow}
 use Rattle.lists.specs.Refusals.{refuse, among}
-use Rattle.lists.proofs.Bools.{and-left, and-right, both-ways}
-use Rattle.lists.proofs.Places.{any-found}
+use Rattle.lists.proofs.Bools.{and-left, and-right, no-true, both-ways}
+use Rattle.lists.proofs.Places.{any-found, any-nowhere}
 use Rattle.lists.proofs.Refusals.{taken, refused, either-way}
 use Rattle.address.specs.declared.Port.{Port}
 use Rattle.address.specs.declared.Seq.{Seq}
@@ -36,17 +36,9 @@ use Rattle.ledger_clear.specs.Clear.{settledAt, clearRefusal, clearOf}
 use Rattle.ledger_accept.specs.Accept.{callRefusal, acceptRefusal, isUnrouted, legFor, legForAt, acceptOf}
 use Rattle.ledger_laws.specs.Calls.{Call, accepting, answering, ticking, clearing, refusalOf, after}
 use Rattle.ledger_laws.specs.Promises.{Whole, PlacesKept, AsWas, TwoAlike, KeepsRules, RulesAre, RulesKept, brokenRefusal, RulesBroken, Named, Answers, AnswerCloses, Ticks, TickCounts, Clears, ClearRemoves, Settled, ClearRefuses, Adds, AcceptAdds}
-use Rattle.ledger_laws.proofs.Rules.{any-nowhere, open-for, is-for, Alike, alike-is, is-alike, leg-obeys, apart-at, obeys-from}
+use Rattle.ledger.proofs.Alike.{open-for, is-for, Alike, alike-is, is-alike, leg-obeys, apart-at, only-one, obeys-from}
 use Rattle.ledger_laws.proofs.Places.{answer-whole, tick-whole, clear-whole, accept-whole, answer-found, answer-at, answer-other, tick-at, tick-past, clear-before, clear-moved, clear-last, clear-past, accept-call, accept-refusal, accept-before, accept-new, accept-past}
 use Rattle.ledger_laws.proofs.Keeps.{answer-open, answer-keeps, tick-keeps, clear-count, clear-keeps, in-order, accept-count, accept-keeps}
-
--- a test that cannot hold does not
-no-true : {b : Bool} → (b ≡ true → ⊥) → b ≡ false
-no-true {b} f = go b f
-  where
-    go : (b : Bool) → (b ≡ true → ⊥) → b ≡ false
-    go true f = absurd (f refl)
-    go false f = refl
 
 -- ---- the rules
 
@@ -177,17 +169,7 @@ module _ (l : Ledger) (by to : Address) (seq : Seq) (reply : Reply) (whole : Who
   found k n = rw (rules, any-found (answeredAt l by to seq) (l .count) k (n .counts) (named-is k n))
 
   only : (i j : ℕ) → Named l by to seq reply i → Named l by to seq reply j → i ≡ j
-  only i j a b = go (ℕ-discrete i j)
-    where
-      go : Dec (i ≡ j) → i ≡ j
-      go (yes e) = e
-      go (no ne) =
-          absurd (both-ways
-          (is-alike (legAt l i) (legAt l j) (record {
-            first = a .is-open;
-            second = record { is-open = b .is-open; from = b .source ∙ sym (a .source); to = b .destination ∙ sym (a .destination); numbered = b .number ∙ sym (a .number) };
-          }))
-          (apart-at l (obedient l rules) i j (a .counts) (b .counts) ne))
+  only i j a b = only-one l (obedient l rules) to by seq i j (a .counts) (b .counts) (named-is i a) (named-is j b)
 
   -- the place that is searched for is the one named
   place-is : (k : ℕ) → (n : Named l by to seq reply k) → answeredPlace l by to seq ≡ k

@@ -89,6 +89,18 @@ no-not false h = refl
 pub both-ways : {x : Bool} → x ≡ true → x ≡ false → ⊥
 both-ways p q = true≢false (sym p ∙ q)
 
+-- a test that cannot hold does not
+pub no-true : {b : Bool} → (b ≡ true → ⊥) → b ≡ false
+no-true {b} f = go b f
+  where
+    go : (b : Bool) → (b ≡ true → ⊥) → b ≡ false
+    go true f = absurd (f refl)
+    go false f = refl
+
+-- what is not so when it would make something so that is not
+pub not-so : (x y : Bool) → (x ≡ true → y ≡ true) → y ≡ false → x ≡ false
+not-so x y f h = no-true (λ e. both-ways (f e) h)
+
 -- two tests that hold together are the same
 pub both-same : (x y : Bool) → (x ≡ true → y ≡ true) → (y ≡ true → x ≡ true) → x ≡ y
 both-same true y f g = sym (f refl)

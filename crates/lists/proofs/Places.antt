@@ -12,7 +12,7 @@ use borrow.Author.Tests.{lt-ltb, le-ltb}
 use lib.ListN.{length, getD, set, replicate, length-append, length-replicate, replicate-append-replicate, List·getD-append}
 use lib.Seq.{getD-at, getD-append-add, set-at}
 use Rattle.lists.specs.Places.{anyBelow, firstFrom, firstBelow, sameAt, repeatAt, repeats, elementAt, firsts, row, joined, upTo}
-use Rattle.lists.proofs.Bools.{or-right, or-none, or-neither-of}
+use Rattle.lists.proofs.Bools.{or-right, or-none, or-neither-of, no-true}
 
 -- ---- some place below n
 
@@ -61,6 +61,11 @@ unfolding anyBelow
 any-never p h zero = refl
 any-never p h (suc n) = rw (any-never p h n, h n)
 
+pub any-nowhere : (p : ℕ → Bool) (n : ℕ) → ((i : ℕ) → i < n → p i ≡ false) → anyBelow p n ≡ false
+unfolding anyBelow
+any-nowhere p zero h = refl
+any-nowhere p (suc n) h = rw (any-nowhere p n (λ i l. h i (omega arith)), h n (omega arith))
+
 -- two tests that agree below n
 pub any-agree : (p p' : ℕ → Bool) (n : ℕ) → ((i : ℕ) → i < n → p i ≡ p' i) → anyBelow p n ≡ anyBelow p' n
 unfolding anyBelow
@@ -80,9 +85,8 @@ None : (ℕ → Bool) → ℕ → ℕ → Type 0
 None p i k = (j : ℕ) → i ≤ j → j < k → p j ≡ false
 
 any-below-none : (p : ℕ → Bool) (n : ℕ) → None p 0 n → anyBelow p n ≡ false
-unfolding anyBelow None
-any-below-none p zero h = refl
-any-below-none p (suc n) h = rw (any-below-none p n (λ j l m. h j l (omega arith)), h n (omega arith) (omega arith))
+unfolding None
+any-below-none p n h = any-nowhere p n (λ j m. h j (omega arith) m)
 
 none-below : (p : ℕ → Bool) (n : ℕ) → anyBelow p n ≡ false → None p 0 n
 unfolding None
@@ -141,6 +145,10 @@ from-cases p i (suc n) = go (p i) refl (from-cases p (suc i) n)
 pub first-stop : (p : ℕ → Bool) (n k : ℕ) → FirstAt p n k → firstBelow p n ≡ k
 unfolding firstBelow
 first-stop p n k f = from-found p 0 n k (omega arith) (omega (arith, f .below)) (f .passes) (none-below p k (f .none-before))
+
+-- and one from the other end has, where no two places pass
+pub first-only : (p : ℕ → Bool) (n k : ℕ) → k < n → p k ≡ true → ((j : ℕ) → j < n → p j ≡ true → j ≡ k) → firstBelow p n ≡ k
+first-only p n k h e one = first-stop p n k (record { below = h; passes = e; none-before = any-nowhere p k (λ j l. no-true (λ q. omega (arith, one j (omega arith) q))) })
 
 -- where some place passes, `firstBelow` is such a place
 pub first-found : (p : ℕ → Bool) (n : ℕ) → anyBelow p n ≡ true → FirstAt p n (firstBelow p n)

@@ -3,23 +3,19 @@ use Prim.Native.Nat.{ℕ, _<_, _≤_}
 use mathlib.Core.Path.{_≡_, refl, sym, ap, _∙_}
 use mathlib.Core.Bool.{Bool, true, false, _&&_}
 use native.Mathlib.Omega.{arith}
-use native.Mathlib.Decide.{decLt}
+use native.Mathlib.Decide.{decLt, ℕ-discrete}
 use borrow.Author.Tests.{le-leb, eqb-true, eq-eqb}
 use Rattle.lists.specs.Places.{anyBelow, sameAt, repeatAt, repeats}
 use Rattle.lists.proofs.Bools.{and-left, and-right, and-both, both-same, both-ways}
-use Rattle.lists.proofs.Places.{any-agree, any-never, any-false}
+use Rattle.lists.proofs.Places.{any-false, any-nowhere}
 use Rattle.address.specs.declared.Seq.{Seq}
 use Rattle.address.specs.declared.Address.{Address}
 use Rattle.address.specs.Address.{sameAddress}
 use Rattle.address.proofs.Laws.{same-eq, same-refl}
 use Rattle.ledger.specs.declared.Leg.{Leg}
 use Rattle.ledger.specs.declared.Ledger.{Ledger}
 use Rattle.ledger.specs.Rules.{legAt, isOpen, isOpenLeg, alike, legObeys, brokenAt, obeys}
 use Rattle.ledger.proofs.Laws.{Right, Obedient}
-
--- what a test that holds nowhere below n says
-pub any-nowhere : (p : ℕ → Bool) (n : ℕ) → ((i : ℕ) → i < n → p i ≡ false) → anyBelow p n ≡ false
-any-nowhere p n h = any-agree p (λ i. false) n h ∙ any-never (λ i. false) (λ i. refl) n
 
 -- ---- legs alike
 
@@ -71,11 +67,6 @@ pub alike-turned : (g h : Leg) → alike g h ≡ alike h g
 alike-turned g h =
     both-same (alike g h) (alike h g) (λ e. is-alike h g (turned g h (alike-is g h e))) (λ e. is-alike g h (turned h g (alike-is h g e)))
 
--- what is not so when it would make something so that is not
-pub not-so : (x y : Bool) → (x ≡ true → y ≡ true) → y ≡ false → x ≡ false
-not-so true y f h = absurd (both-ways (f refl) h)
-not-so false y f h = refl
-
 -- ---- a leg that is right
 
 pub leg-obeys : (g : Leg) → Right g → legObeys g ≡ true
@@ -95,6 +86,21 @@ apart-at l o i j hi hj ne = go (decLt j i)
     go : Dec (j < i) → alike (legAt l i) (legAt l j) ≡ false
     go (yes h) = apart-earlier l o i j hi h
     go (no h) = alike-turned (legAt l i) (legAt l j) ∙ apart-earlier l o j i hj (omega (arith, ne))
+
+-- so at most one is open with a source, a destination and a sequence number
+pub only-one : (l : Ledger) → Obedient l → (source destination : Address) (seq : Seq) (i j : ℕ) → i < l .count → j < l .count
+    → isOpenLeg source destination seq (legAt l i) ≡ true → isOpenLeg source destination seq (legAt l j) ≡ true → i ≡ j
+only-one l o source destination seq i j hi hj p q = go (ℕ-discrete i j)
+  where
+    both : OpenFor source destination (seq .0) (legAt l i) → OpenFor source destination (seq .0) (legAt l j) → Alike (legAt l i) (legAt l j)
+    both a b = record { first = a .is-open; second = record { is-open = b .is-open; from = b .from ∙ sym (a .from); to = b .to ∙ sym (a .to); numbered = b .numbered ∙ sym (a .numbered) } }
+
+    go : Dec (i ≡ j) → i ≡ j
+    go (yes e) = e
+    go (no ne) =
+        absurd (both-ways
+        (is-alike (legAt l i) (legAt l j) (both (open-for source destination seq (legAt l i) p) (open-for source destination seq (legAt l j) q)))
+        (apart-at l o i j hi hj ne))
 
 -- and what makes a ledger obedient
 pub obeys-from : (l : Ledger) → l .count ≤ 128 → ((i : ℕ) → i < l .count → legObeys (legAt l i) ≡ true)
