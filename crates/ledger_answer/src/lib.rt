@@ -9,9 +9,9 @@ use ledger::is_open_leg;
 use ledger::obeys;
 use ledger::with_standing;
 ghost use mathlib.Core.Path.{_≡_};
-ghost use Prim.Native.Nat.{_≤_};
+ghost use mathlib.Core.Bool.{true};
 ghost use Rattle.ledger_answer.specs.Answer.{standingFor, settled, waits, answered, answeredPlace, answerOf};
-ghost use Rattle.ledger.specs.Rules.{mostLegs};
+ghost use Rattle.ledger.specs.Rules.{obeys};
 
 // The reason set "alerter" (appendix A, <reason_code_set>), and its code "wait_ack" (D.1).
 const ALERTER: u8 = 2;
@@ -60,19 +60,19 @@ fn answered(g: Leg, r: Reply) -> Leg
     settled(g, r)
 }
 
-// The place of the open leg that an answer names, or the number of legs.
+// The place of the open leg that an answer names, or the number of legs. The newest are looked at first: there is at most one.
 fn answered_place(l: Ledger, by: Address, to: Address, seq: Seq) -> usize
-    requires { ⌜ l .count ≤ mostLegs ⌝ }
+    requires { ⌜ obeys l ≡ true ⌝ }
     ensures { λ r. ⌜ r ≡ answeredPlace l by to seq ⌝ }
 {
     let n = l.count as usize;
-    let mut i: usize = 0;
-    while i < n {
+    let mut i: usize = n;
+    while 0 < i {
+        i -= 1;
         let g = l.legs[i];
         if is_open_leg(g, to, by, seq) {
             return i;
         }
-        i += 1;
     }
     n
 }

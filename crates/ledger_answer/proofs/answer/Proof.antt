@@ -16,7 +16,7 @@ returns : tie.Need-returns
 returns c = answer-60 (c .before .before .args .t1) (c .before .before .args .by) (c .before .before .args .to) (c .before .before .args .seq) (c .before .before .args .reply) (told-no (c .before .obeys .ensures) (c .if1 .taken))
 
 answered-place-requires : tie.Need-answered-place-requires
-answered-place-requires c κs = obedient (c .before .before .args .t1) (told-yes (c .before .obeys .ensures) (c .if1 .left)) .few
+answered-place-requires c κs = told-yes (c .before .obeys .ensures) (c .if1 .left)
 
 cast-if2 : tie.Need-cast-if2
 cast-if2 c = search needs
