@@ -1,10 +1,11 @@
 //! One frame read or written, over and over: frames WHO CALL SHAPE TIMES.
 //! WHO is ours (pz_read, pz_write), plain (an ordinary program with the same checks, below) or none. CALL is read or write. SHAPE is SIZE-COUNT,
-//! the frame's size and its destinations, and after it `-check` for a wrong check character or `-version` for a wrong version, which is found last.
+//! the frame's size and its destinations, and after it `-check` for a wrong check character, `-twin` for a last destination that equals the first, or
+//! `-version` for a wrong version, which is found last.
 //! A sum over what came is printed, the same for both.
 
 extern "C" {
-    fn pz_read(frame: *const u8, n: usize, image: *mut u8, m: usize) -> u8;
+    fn pz_read(frame: *const u8, n: usize, image: *mut u8, m: usize, place: *mut u16) -> u8;
     fn pz_write(
         image: *const u8,
         m: usize,
@@ -67,8 +68,9 @@ struct Envelope {
     destinations: Vec<Address>,
 }
 
-fn has_twins(places: &[Address]) -> bool {
-    places.iter().enumerate().any(|(place, one)| places[..place].contains(one))
+/// The first that equals an earlier one.
+fn twin(places: &[Address]) -> Option<usize> {
+    (0..places.len()).find(|&place| places[..place].contains(&places[place]))
 }
 
 fn version_for(kind: u8) -> u8 {
@@ -83,38 +85,38 @@ fn check(bytes: &[u8]) -> u8 {
     bytes.iter().fold(0, |sum, byte| sum ^ byte)
 }
 
-/// Reads a frame with all checks of a reader.
-fn read(frame: &[u8]) -> Result<Envelope, u8> {
+/// Reads a frame with all checks of a reader; a refusal has its number and its place.
+fn read(frame: &[u8]) -> Result<Envelope, (u8, usize)> {
     if frame.len() < 10 {
-        return Err(1);
+        return Err((1, frame.len()));
     }
     let word = usize::from(frame[3]) << 8 | usize::from(frame[4]);
     let (count, length) = (word & 63, word >> 6);
     let size = 10 + 3 * count + length;
     if frame.len() < size {
-        return Err(1);
+        return Err((1, frame.len()));
     }
     if frame.len() > size {
-        return Err(2);
+        return Err((2, size));
     }
     if check(&frame[..size - 1]) != frame[size - 1] {
-        return Err(3);
+        return Err((3, size - 1));
     }
     if count == 0 {
-        return Err(4);
+        return Err((4, 4));
     }
     let after = &frame[5 + 3 * count..];
     let (priority, version, kind) = (after[0] >> 4, after[0] & 15, after[3]);
     if priority == 0 || priority > 9 {
-        return Err(7);
+        return Err((7, 5 + 3 * count));
     }
     let destinations: Vec<Address> =
         frame[5..5 + 3 * count].chunks_exact(3).map(Address::from_three).collect();
-    if has_twins(&destinations) {
-        return Err(8);
+    if let Some(place) = twin(&destinations) {
+        return Err((8, 5 + 3 * place));
     }
     if version != version_for(kind) {
-        return Err(9);
+        return Err((9, 5 + 3 * count));
     }
     let seq = u16::from_be_bytes([after[1], after[2]]);
     Ok(Envelope {
@@ -144,7 +146,7 @@ fn write(e: &Envelope, contents: &[u8], frame: &mut [u8]) -> Result<usize, u8> {
     if e.priority == 0 || e.priority > 9 {
         return Err(7);
     }
-    if has_twins(&e.destinations) {
+    if twin(&e.destinations).is_some() {
         return Err(8);
     }
     if e.version != version_for(e.kind) {
@@ -235,6 +237,15 @@ fn work(shape: &str) -> Work {
     frame.truncate(size);
     match parts.get(2) {
         Some(&"check") => frame[size - 1] ^= 1,
+        Some(&"twin") => {
+            // the last destination as the first: their bytes differ by what the check changes by
+            for i in 0..3 {
+                let last = 5 + 3 * (count - 1) + i;
+                frame[size - 1] ^= frame[last] ^ frame[5 + i];
+                frame[last] = frame[5 + i];
+            }
+            e.destinations[count - 1] = e.destinations[0];
+        }
         Some(&"version") => {
             e.version = 2;
             frame[5 + 3 * count] ^= 3;
@@ -248,13 +259,13 @@ fn work(shape: &str) -> Work {
 }
 
 #[inline(never)]
-fn plain_read(w: &Work, image: &mut [u8]) -> u8 {
+fn plain_read(w: &Work, image: &mut [u8]) -> (u8, u16) {
     match read(&w.frame) {
         Ok(e) => {
             image_of(&e, image);
-            0
+            (0, 0)
         }
-        Err(number) => number,
+        Err((number, place)) => (number, place as u16),
     }
 }
 
@@ -266,8 +277,12 @@ fn plain_write(w: &Work, frame: &mut [u8]) -> (u8, u16) {
     }
 }
 
-fn our_read(w: &Work, image: &mut [u8]) -> u8 {
-    unsafe { pz_read(w.frame.as_ptr(), w.frame.len(), image.as_mut_ptr(), image.len()) }
+fn our_read(w: &Work, image: &mut [u8]) -> (u8, u16) {
+    let (frame, mut place) = (&w.frame, 0);
+    let number = unsafe {
+        pz_read(frame.as_ptr(), frame.len(), image.as_mut_ptr(), image.len(), &mut place)
+    };
+    (number, place)
 }
 
 fn our_write(w: &Work, frame: &mut [u8]) -> (u8, u16) {
@@ -293,14 +308,14 @@ fn main() {
     let mut out = vec![0; FRAME_SIZE];
     let mut sum = 0u64;
     for _ in 0..times.parse().expect("a number") {
-        let (number, written) = match (who, call) {
-            ("ours", "read") => (our_read(&w, &mut out[..IMAGE_SIZE]), 0),
+        let (number, beside) = match (who, call) {
+            ("ours", "read") => our_read(&w, &mut out[..IMAGE_SIZE]),
             ("ours", _) => our_write(&w, &mut out),
-            ("plain", "read") => (plain_read(&w, &mut out[..IMAGE_SIZE]), 0),
+            ("plain", "read") => plain_read(&w, &mut out[..IMAGE_SIZE]),
             ("plain", _) => plain_write(&w, &mut out),
             _ => (0, 0),
         };
-        sum += u64::from(number) * 3 + u64::from(written);
+        sum += u64::from(number) * 3 + u64::from(beside);
     }
     let bytes =
         out.iter().fold(0u64, |sum, &byte| sum.wrapping_mul(31).wrapping_add(u64::from(byte)));

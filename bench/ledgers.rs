@@ -13,6 +13,7 @@ extern "C" {
         t: usize,
         ticks: u16,
         added: *mut u8,
+        place: *mut u16,
     ) -> u8;
     fn pz_answer(
         ledger: *mut u8,
@@ -354,7 +355,7 @@ fn frame() -> Vec<u8> {
 }
 
 fn ours(call: &str, image: &mut [u8], legs: usize, frame: &[u8], table: &[u8]) -> (u8, u8) {
-    let mut beside = 0;
+    let (mut beside, mut place) = (0, 0);
     let (start, size) = (image.as_mut_ptr(), image.len());
     let seq = sequence(call, legs);
     let number = unsafe {
@@ -371,6 +372,7 @@ fn ours(call: &str, image: &mut [u8], legs: usize, frame: &[u8], table: &[u8]) -
                 table.len(),
                 100,
                 &mut beside,
+                &mut place,
             ),
             _ => pz_answer(start, size, 9, 20, 1, 9, 1, 5, seq, 0, 0, 0),
         }

@@ -1,5 +1,5 @@
-/* Reads one frame from standard input and prints its fields, or the number that it is refused with;
- * standard error then has the number in words. Exit status: 0 printed, 1 refused, 2 not read or not
+/* Reads one frame from standard input and prints its fields, or the number that it is refused with
+ * and the place; standard error then has the number in words. Exit status: 0 printed, 1 refused, 2 not read or not
  * written. */
 #include <stdio.h>
 
@@ -36,12 +36,13 @@ int main(void)
         perror("frame: standard input");
         return FAILED;
     }
-    uint8_t refusal = pz_read(frame, n, image, sizeof image);
+    uint16_t place;
+    uint8_t refusal = pz_read(frame, n, image, sizeof image, &place);
     if (refusal == PZ_DONE) {
         print_envelope(image);
     } else {
-        printf("refused %u\n", refusal);
-        fprintf(stderr, "frame: refused %u: %s\n", refusal, pz_refusal_text(refusal));
+        printf("refused %u at %u\n", refusal, place);
+        fprintf(stderr, "frame: refused %u at %u: %s\n", refusal, place, pz_refusal_text(refusal));
     }
     if (ferror(stdout) != 0 || fclose(stdout) != 0) {
         perror("frame: standard output");

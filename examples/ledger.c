@@ -74,12 +74,13 @@ static uint8_t put_frame(uint16_t *size)
 
 int main(void)
 {
-    uint16_t size;
+    uint16_t size, place;
     uint8_t count, refusal;
     put_table();
     refusal = put_frame(&size);
     show("write", refusal);
-    refusal = pz_accept(ledger, sizeof ledger, frame, size, 0, table, sizeof table, TICKS, &count);
+    refusal = pz_accept(ledger, sizeof ledger, frame, size, 0, table, sizeof table, TICKS, &count,
+                        &place);
     show("accept", refusal);
     show("NAK by 9/20/5", pz_answer(ledger, sizeof ledger, 9, 20, 5, 9, 1, 2, SEQ, 1, 1, 7));
     show("ACK by 9/20/5", pz_answer(ledger, sizeof ledger, 9, 20, 5, 9, 1, 2, SEQ, 0, 0, 0));

@@ -20,7 +20,7 @@
  * reads, or touches what it writes.
  *
  * Stack. Measured, not proved: pz_sheet needs 22,768 bytes, pz_first and pz_next up to 20,672, the
- * calls on a ledger up to 9,592, all others less than 4,000. tests/stack.c makes each call on a
+ * calls on a ledger up to 9,608, all others less than 4,000. tests/stack.c makes each call on a
  * painted stack, over the largest inputs and the deepest searches, and fails where one needs
  * 24,000. Give a thread 65,536 (PZ_STACK_SIZE): twice that, with room for the caller's own.
  *
@@ -83,8 +83,11 @@ extern "C" {
 #define PZ_FRAME_SIZE 1222
 
 /* Reads a frame of n bytes and writes its image: 1 to 9 of the frame, then 10 if the image has fewer than 267 bytes.
- * The contents are the frame's own bytes, `length` of them from `offset` on. */
-uint8_t pz_read(const uint8_t *frame, size_t n, uint8_t *image, size_t m);
+ * The contents are the frame's own bytes, `length` of them from `offset` on. *place is where a refused frame is at
+ * fault, the offset of the first byte of the first field: of 1 the frame's length, of 2 the first byte too many, of 3
+ * the check character, of 4 the byte of the destination count, of 7 and 9 that of priority and version, of 8 the first
+ * destination that equals an earlier one; else 0. */
+uint8_t pz_read(const uint8_t *frame, size_t n, uint8_t *image, size_t m, uint16_t *place);
 
 /* Writes the frame of an image and k bytes of contents into n bytes at frame; *written is its size. The image's
  * length, offset and places past the count are not looked at. 10 if the image has fewer than 267 bytes, then 4 to 9
@@ -108,9 +111,10 @@ uint8_t pz_choose(const uint8_t *table, size_t m, uint8_t brigade, uint16_t node
 #define PZ_LEDGER_SIZE 1921
 
 /* Takes a frame that came in by the arrival port: legs for its destinations, open for so many ticks, are added at the
- * end, all or none, if it asks for an acknowledgement; *added is how many. 1 to 9, 50, 51, 60, 61, 62, 63. */
+ * end, all or none, if it asks for an acknowledgement; *added is how many. 1 to 9, 50, 51, 60, 61, 62, 63. *place is
+ * pz_read's for 1 to 9, else 0. */
 uint8_t pz_accept(uint8_t *ledger, size_t m, const uint8_t *frame, size_t n, uint8_t arrival, const uint8_t *table,
-                  size_t t, uint16_t ticks, uint8_t *added);
+                  size_t t, uint16_t ticks, uint8_t *added, uint16_t *place);
 
 /* Settles the open leg that an answer names: who answers, to whom, and the sequence number. nak 0 is an ACK, any other
  * number a NAK with its reason set and code. A NAK of set 2, "alerter", with code 13, "wait_ack", says that the call is

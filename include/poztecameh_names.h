@@ -13,9 +13,9 @@
 
 /* The version of the two headers and of the library beside them. The first number changes with a
  * call, a refusal or an image that is there, the second where something is added. */
-#define PZ_VERSION_MAJOR 2
+#define PZ_VERSION_MAJOR 3
 #define PZ_VERSION_MINOR 0
-#define PZ_VERSION "2.0"
+#define PZ_VERSION "3.0"
 
 /* A thread's stack that is enough for any call: more than twice what any needs (poztecameh.h,
  * "Stack"). */

@@ -115,13 +115,13 @@ static void test_envelope(const struct envelope *e)
 {
     uint8_t image[PZ_ENVELOPE_SIZE], frame[PZ_FRAME_SIZE], laid[PZ_FRAME_SIZE],
         read[PZ_ENVELOPE_SIZE];
-    uint16_t written;
+    uint16_t written, place;
     size_t offset, size = lay_frame(laid, e, &offset);
     put_envelope(image, e);
     CHECK(pz_write(image, sizeof image, contents, e->length, frame, sizeof frame, &written) ==
           PZ_DONE);
     CHECK(written == size && memcmp(frame, laid, size) == 0);
-    CHECK(pz_read(laid, size, read, sizeof read) == PZ_DONE);
+    CHECK(pz_read(laid, size, read, sizeof read, &place) == PZ_DONE && place == 0);
     CHECK(pz_word(read + PZ_ENVELOPE_OFFSET) == offset);
     pz_put_word(image + PZ_ENVELOPE_OFFSET, (uint16_t)offset);
     CHECK(memcmp(read, image, sizeof image) == 0);
@@ -157,13 +157,17 @@ static void test_envelope_limits(void)
 static void test_envelope_refusals(void)
 {
     uint8_t frame[PZ_FRAME_SIZE + 1], image[PZ_ENVELOPE_SIZE];
+    uint16_t place;
     size_t offset, size = lay_frame(frame, &plain, &offset);
     frame[size] = 0;
-    CHECK(pz_read(frame, size - 1, image, sizeof image) == PZ_BAD_FRAME_SHORT);
-    CHECK(pz_read(frame, size + 1, image, sizeof image) == PZ_BAD_FRAME_LONG);
-    CHECK(pz_read(frame, size, image, sizeof image - 1) == PZ_NO_ROOM);
+    CHECK(pz_read(frame, size - 1, image, sizeof image, &place) == PZ_BAD_FRAME_SHORT &&
+          place == size - 1);
+    CHECK(pz_read(frame, size + 1, image, sizeof image, &place) == PZ_BAD_FRAME_LONG &&
+          place == size);
+    CHECK(pz_read(frame, size, image, sizeof image - 1, &place) == PZ_NO_ROOM && place == 0);
     frame[size - 1] ^= 1;
-    CHECK(pz_read(frame, size, image, sizeof image) == PZ_BAD_FRAME_CHECK);
+    CHECK(pz_read(frame, size, image, sizeof image, &place) == PZ_BAD_FRAME_CHECK &&
+          place == size - 1);
     struct envelope e = plain;
     e.count = 0;
     CHECK(write_envelope(&e, 0) == PZ_BAD_FRAME_COUNT);
@@ -301,12 +305,14 @@ static void test_waiting(void)
 static uint8_t accept(uint8_t *ledger, uint16_t ticks)
 {
     uint8_t table[PZ_TABLE_SIZE], frame[PZ_FRAME_SIZE], added;
+    uint16_t place;
     struct envelope e = plain;
     size_t offset, size;
     e.ack = 1;
     size = lay_frame(frame, &e, &offset);
     put_table(table, PZ_MOST_ENTRIES, PZ_KIND_NODE, 1);
-    return pz_accept(ledger, PZ_LEDGER_SIZE, frame, size, 0, table, sizeof table, ticks, &added);
+    return pz_accept(ledger, PZ_LEDGER_SIZE, frame, size, 0, table, sizeof table, ticks, &added,
+                     &place);
 }
 
 static void test_accepting(void)

@@ -136,7 +136,10 @@ static void call_write(void)
         pz_write(envelope, sizeof envelope, contents, sizeof contents, frame, sizeof frame, &word);
 }
 
-static void call_read(void) { answer = pz_read(frame, sizeof frame, envelope, sizeof envelope); }
+static void call_read(void)
+{
+    answer = pz_read(frame, sizeof frame, envelope, sizeof envelope, &word);
+}
 
 static void before_choose(void) { fill_table(); }
 static void call_choose(void)
@@ -148,7 +151,7 @@ static void before_accept(void) { fill_ledger(PZ_MOST_LEGS - PZ_MOST_DESTINATION
 static void call_accept(void)
 {
     answer =
-        pz_accept(ledger, sizeof ledger, frame, sizeof frame, 0, table, sizeof table, 1, &byte);
+        pz_accept(ledger, sizeof ledger, frame, sizeof frame, 0, table, sizeof table, 1, &byte, &word);
 }
 
 static void before_answer(void) { fill_ledger(PZ_MOST_LEGS); }

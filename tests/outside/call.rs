@@ -3,7 +3,7 @@
 use crate::book::{self, LEG_SIZE};
 use crate::door::{self, hex, Answer, Expected, Given};
 use crate::group::{Group, Stop};
-use crate::wire::Address;
+use crate::wire::{self, Address};
 use std::fmt;
 
 pub enum Call {
@@ -41,8 +41,13 @@ impl Call {
     fn expected(&self, ledger: &[u8]) -> Expected {
         match self {
             Call::Accept { frame, arrival, table, ticks } => {
-                let (legs, added) = book::accept(ledger, frame, *arrival, table, *ticks)?;
-                Ok(Given::new(book::lay(&legs), &[added]))
+                match book::accept(ledger, frame, *arrival, table, *ticks) {
+                    Ok((legs, added)) => Ok(Given::new(book::lay(&legs), &[added, 0])),
+                    Err(number) => {
+                        let beside = vec![0, wire::place(frame, number)];
+                        Ok(Given { number, bytes: Vec::new(), beside })
+                    }
+                }
             }
             Call::Answer { by, to, seq, reply: [nak, set, code] } => {
                 let reason = (*nak != 0).then_some((*set, *code));
@@ -72,7 +77,7 @@ impl Call {
         let came = self.make(ledger);
         let expected = self.expected(ledger);
         group.compare(&came, &expected, || format!("{name}: {self}, ledger {}", hex(ledger)))?;
-        Ok((came, expected.ok()))
+        Ok((came, expected.ok().filter(|given| given.number == 0)))
     }
 }
 

@@ -7,7 +7,7 @@ use std::fmt;
 use std::sync::atomic::{AtomicU8, Ordering};
 
 extern "C" {
-    fn pz_read(frame: *const u8, n: usize, image: *mut u8, m: usize) -> u8;
+    fn pz_read(frame: *const u8, n: usize, image: *mut u8, m: usize, place: *mut u16) -> u8;
     fn pz_write(
         image: *const u8,
         m: usize,
@@ -37,6 +37,7 @@ extern "C" {
         t: usize,
         ticks: u16,
         added: *mut u8,
+        place: *mut u16,
     ) -> u8;
     fn pz_answer(
         ledger: *mut u8,
@@ -89,7 +90,7 @@ impl Given {
         Given { number: 0, bytes, beside: beside.to_vec() }
     }
 
-    /// A refused chart: a number beside the refusal is real, the field's place.
+    /// A refused frame or chart: a number beside the refusal is real, the place.
     pub fn refused_at(number: u8, place: usize) -> Given {
         Given { number, bytes: Vec::new(), beside: vec![place] }
     }
@@ -273,8 +274,10 @@ impl fmt::Display for Answer {
 pub fn read(frame: &[u8], image_size: usize) -> Answer {
     let mut frame = Lent::holding("frame", frame);
     let mut image = Lent::blank("image", image_size);
-    let number = unsafe { pz_read(frame.start(), frame.size, image.start(), image.size) };
-    Answer { number, lent: image, handed_in: vec![frame], beside: vec![] }
+    let mut place = Beside::new("place", u16::BITS);
+    let number =
+        unsafe { pz_read(frame.start(), frame.size, image.start(), image.size, place.start()) };
+    Answer { number, lent: image, handed_in: vec![frame], beside: vec![place] }
 }
 
 /// Calls pz_write and lends it a frame buffer of this size.
@@ -331,6 +334,7 @@ pub fn accept(ledger: &[u8], frame: &[u8], arrival: usize, table: &[u8], ticks: 
     let mut frame = Lent::holding("frame", frame);
     let mut table = Lent::holding("table", table);
     let mut added = Beside::new("added", u8::BITS);
+    let mut place = Beside::new("place", u16::BITS);
     let number = unsafe {
         pz_accept(
             ledger.start(),
@@ -342,9 +346,10 @@ pub fn accept(ledger: &[u8], frame: &[u8], arrival: usize, table: &[u8], ticks: 
             table.size,
             word(ticks),
             added.start(),
+            place.start(),
         )
     };
-    Answer { number, lent: ledger, handed_in: vec![frame, table], beside: vec![added] }
+    Answer { number, lent: ledger, handed_in: vec![frame, table], beside: vec![added, place] }
 }
 
 /// Calls pz_answer: a number for ACK or NAK, then the reason set and the code.

@@ -11,6 +11,7 @@ use crate::{image, wire};
 pub const GROUPS: &[Tests] = &[
     ("envelope by hand", by_hand),
     ("envelope limits", limits),
+    ("envelope places", places),
     ("envelope lengths", lengths),
     ("envelope order", order),
     ("envelope sweeps", sweeps),
@@ -34,7 +35,10 @@ pub type Fault<T> = fn(&mut T, &mut Draw);
 // ---- one call, compared ----
 
 fn expected_read(frame: &[u8], image_size: usize) -> Expected {
-    let envelope = wire::read(frame)?;
+    let envelope = match wire::read(frame) {
+        Ok(envelope) => envelope,
+        Err(number) => return Ok(Given::refused_at(number, wire::place(frame, number))),
+    };
     if image_size < image::SIZE {
         return Err(10);
     }
@@ -49,7 +53,7 @@ fn expected_write(image: &[u8], contents: &[u8], room: usize) -> Expected {
 }
 
 fn read_to(image: Vec<u8>) -> Given {
-    Given::new(image, &[])
+    Given::new(image, &[0])
 }
 
 fn written_to(frame: Vec<u8>) -> Given {
@@ -221,6 +225,72 @@ const LIMITS: [(&str, u8, Change); 45] = [
     ("a destination equal to the source", 0, |e| e.destinations[1] = e.source),
     ("version 0", 9, |e| e.version = 0),
 ];
+
+// Where a refused frame of 3 destinations, or of as many as said, is at fault.
+const PLACES: [(&str, u8, usize, Change); 11] = [
+    ("0 destinations", 4, 4, |e| spread(e, 0)),
+    ("priority 0", 7, 14, |e| e.priority = 0),
+    ("version 2", 9, 14, |e| e.version = 2),
+    ("priority 0 of 63 destinations", 7, 194, |e| {
+        spread(e, MOST_DESTINATIONS);
+        e.priority = 0;
+    }),
+    ("neighbours equal", 8, 8, |e| e.destinations[1] = e.destinations[0]),
+    ("first and last equal", 8, 11, |e| e.destinations[2] = e.destinations[0]),
+    ("all three equal", 8, 8, |e| e.destinations = vec![e.destinations[0]; 3]),
+    ("two pairs, the second inside the first", 8, 11, |e| {
+        spread(e, 4);
+        e.destinations[2] = e.destinations[1];
+        e.destinations[3] = e.destinations[0];
+    }),
+    ("two pairs in turn", 8, 11, |e| {
+        spread(e, 4);
+        e.destinations[2] = e.destinations[0];
+        e.destinations[3] = e.destinations[1];
+    }),
+    ("62nd and 63rd equal", 8, 191, |e| {
+        spread(e, MOST_DESTINATIONS);
+        e.destinations[62] = e.destinations[61];
+    }),
+    ("the 2nd of 63 equals the 1st", 8, 8, |e| {
+        spread(e, MOST_DESTINATIONS);
+        e.destinations[1] = e.destinations[0];
+    }),
+];
+
+fn place(group: &mut Group, name: &str, number: u8, place: usize, frame: &[u8]) -> Outcome {
+    let came = try_read(group, name, frame, image::SIZE)?;
+    group.known(name, number, came)?;
+    let at = door::read(frame, image::SIZE).first_beside();
+    group.check(at == place, || format!("{name}\n  expected place {place}\n  came {at}"))?;
+    Ok(())
+}
+
+fn places(group: &mut Group, _: &mut Draw) -> Outcome {
+    for (name, number, at, change) in PLACES {
+        let mut envelope = Envelope { length: 0, ..plain() };
+        change(&mut envelope);
+        place(group, name, number, at, &wire::lay(&envelope, &[]))?;
+    }
+    let frame = wire::lay(&Envelope { length: 2, ..plain() }, &[7, 8]);
+    place(group, "nothing", 1, 0, &[])?;
+    place(group, "cut after the counts", 1, 5, &frame[..5])?;
+    place(group, "a byte short", 1, 20, &frame[..20])?;
+    place(group, "whole", 0, 0, &frame)?;
+    for more in [1, 2, LONG] {
+        let longer = [&frame[..], &vec![0; more]].concat();
+        place(group, "longer", 2, 21, &longer)?;
+    }
+    for byte in 0..frame.len() {
+        // A change of the counts asks for another size.
+        if byte != 3 && byte != 4 {
+            let mut spoiled = frame.clone();
+            spoiled[byte] ^= 1;
+            place(group, "spoiled", 3, 20, &spoiled)?;
+        }
+    }
+    Ok(())
+}
 
 // Message type, version and number (3.3.2).
 const VERSIONS: [(usize, usize, u8); 12] = [

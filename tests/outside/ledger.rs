@@ -260,11 +260,11 @@ fn one_life(group: &mut Group) -> Outcome {
         step(group, name, ledger, call, Ok(Given::new(bytes.concat(), beside)))
     };
     // Everything leaves by port 4, but what came from there has no such route.
-    go(&accept_from(4, 258), &[&[2], &open, &unrouted], &[2])?;
+    go(&accept_from(4, 258), &[&[2], &open, &unrouted], &[2, 0])?;
     go(&Call::Tick, &[&[2], &later, &unrouted], &[0])?;
     go(&nak, &[&[2], &refused, &unrouted], &[])?;
     go(&Call::Clear(0), &[&[1], &unrouted, &free], &[])?;
-    go(&accept_from(0, 65535), &[&[3], &unrouted, &last, &routed], &[2])?;
+    go(&accept_from(0, 65535), &[&[3], &unrouted, &last, &routed], &[2, 0])?;
     go(&Call::Clear(0), &[&[2], &last, &routed, &free], &[])?;
     for (number, call) in [
         (62, accept_from(0, 1)),

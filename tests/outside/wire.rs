@@ -1,5 +1,6 @@
-//! A second reader and writer of `<envelope>`, from sections 3.2, 3.3, 3.6 and appendix A alone.
-//! A frame is one string of bits, and its fields are taken or laid in the order of appendix A.4.
+//! A second reader and writer of `<envelope>`, from sections 3.2, 3.3, 3.6 and appendix A alone; and
+//! where a refused frame is at fault, from document 02. A frame is one string of bits, and its fields
+//! are taken or laid in the order of appendix A.4.
 
 use crate::bits;
 use crate::rules::{try_rules, Rule};
@@ -137,6 +138,28 @@ fn check_character(bytes: &[u8]) -> u8 {
 pub fn mend(frame: &mut [u8]) {
     if let Some((last, before)) = frame.split_last_mut() {
         *last = check_character(before);
+    }
+}
+
+/// Gives the first byte of the first field at fault of a frame that a number refuses (document 02,
+/// Seven); 0 for a number that is none of the reader's.
+pub fn place(frame: &[u8], number: u8) -> usize {
+    let bits = |widths: &[usize]| widths.iter().sum::<usize>();
+    let counted = bits(&ADDRESS) + bits(&COUNT_AND_LENGTH);
+    let after = |count: usize| counted + count * bits(&ADDRESS);
+    match number {
+        1 => frame.len(),
+        2 => asked_size(frame).expect("a size"),
+        3 => asked_size(frame).expect("a size") - 1,
+        // The length is in front of it, in its first byte too.
+        4 => (counted - 1) / 8,
+        7 | 9 => after(take(frame).count) / 8,
+        8 => {
+            let mut seen = HashSet::new();
+            let first = take(frame).destinations.iter().position(|&a| !seen.insert(a));
+            after(first.expect("two that are equal")) / 8
+        }
+        _ => 0,
     }
 }
 

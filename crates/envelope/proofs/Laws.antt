@@ -11,18 +11,20 @@ use lib.Seq.{take-suc, take-all, drop-cons, getD-drop}
 use lib.Dec.{eqb, ltb}
 use borrow.Author.Tests.{lt-ltb, le-ltb, ltb-false, eqb-true, eqb-false, not-false}
 use Rattle.buffer.specs.Bytes.{Bytes, wordAt}
-use Rattle.lists.specs.Places.{anyBelow, repeats, elementAt, row}
+use Rattle.lists.specs.Places.{anyBelow, firstBelow, repeatAt, repeats, elementAt, row}
 use Rattle.lists.proofs.Bools.{or-neither-of}
-use Rattle.lists.proofs.Places.{any-agree, any-never, any-false, repeats-agree, Agree, row-at}
+use Rattle.lists.proofs.Places.{any-agree, any-never, any-false, repeats-agree, first-repeat-agree, Agree, row-at}
 use Rattle.lists.proofs.Refusals.{pass, or-pass}
 use Rattle.address.specs.declared.Address.{Address}
 use Rattle.address.specs.Address.{inRange, sameAddress}
 use Rattle.address_bytes.specs.Packed.{addressKey}
 use Rattle.address_bytes.proofs.PackedLaws.{unpack-ranged, key-same}
 use Rattle.envelope.specs.declared.Fixed.{Fixed}
+use Rattle.envelope.specs.declared.Judged.{Judged}
 use Rattle.envelope.specs.Frame.{destinationsOffset, lengthOf, countOf, sizeOf, fieldsOf, destinationAt, xorFrom, checkOf}
 use Rattle.envelope.specs.Refusal.{pageOfficer, versionFor, outside, strayAt, outOfRange, wrongVersion, wholeRefusal, valuesRefusalBy, valuesRefusal, frameRefusal}
-use Rattle.envelope.specs.Contracts.{keyAt}
+use Rattle.envelope.specs.Place.{firstTwin, placeBeside, framePlace}
+use Rattle.envelope.specs.Contracts.{keyAt, judgedBy}
 
 -- ---- the check character
 
@@ -80,14 +82,21 @@ never-out f b =
 
 -- ---- equal destinations are equal keys
 
-pub keys-agree : (d : ℕ → Address) (n : ℕ) → ((i : ℕ) → i < n → inRange (d i) ≡ true)
-    → repeats eqb (elementAt 0 (row 63 0 (keyAt d) n)) n ≡ repeats sameAddress d n
-unfolding keyAt
-keys-agree d n r =
-    repeats-agree eqb sameAddress (elementAt 0 (row 63 0 (keyAt d) n)) d n (λ i j hi hj.
-    ap (λ (k : ℕ). eqb k (elementAt 0 (row 63 0 (keyAt d) n) j)) (sym (row-at 63 0 (keyAt d) n i hi))
-    ∙ ap (eqb (addressKey (d i))) (sym (row-at 63 0 (keyAt d) n j hj))
-    ∙ sym (key-same (d i) (d j) (r i hi) (r j hj)))
+module _ (d : ℕ → Address) (n : ℕ) (r : (i : ℕ) → i < n → inRange (d i) ≡ true) where
+  key-agree : (i j : ℕ) → i < n → j < n → eqb (elementAt 0 (row 63 0 (keyAt d) n) i) (elementAt 0 (row 63 0 (keyAt d) n) j) ≡ sameAddress (d i) (d j)
+  unfolding keyAt
+  key-agree i j hi hj =
+      ap (λ (k : ℕ). eqb k (elementAt 0 (row 63 0 (keyAt d) n) j)) (sym (row-at 63 0 (keyAt d) n i hi))
+      ∙ ap (eqb (addressKey (d i))) (sym (row-at 63 0 (keyAt d) n j hj))
+      ∙ sym (key-same (d i) (d j) (r i hi) (r j hj))
+
+  pub keys-agree : repeats eqb (elementAt 0 (row 63 0 (keyAt d) n)) n ≡ repeats sameAddress d n
+  keys-agree = repeats-agree eqb sameAddress (elementAt 0 (row 63 0 (keyAt d) n)) d n key-agree
+
+  -- and so is the first that equals an earlier one
+  pub twins-agree : firstBelow (repeatAt eqb (elementAt 0 (row 63 0 (keyAt d) n))) n ≡ firstTwin d n
+  unfolding firstTwin
+  twins-agree = first-repeat-agree eqb sameAddress (elementAt 0 (row 63 0 (keyAt d) n)) d n key-agree
 
 pub values-agree : (e : Fixed) (n : ℕ) (d d' : ℕ → Address) → Agree d d' (e .count) → valuesRefusal e n d ≡ valuesRefusal e n d'
 unfolding outOfRange strayAt
@@ -167,6 +176,17 @@ module _ (e : Fixed) (n : ℕ) (stray equal : Bool) where
             unfolding valuesRefusalBy
             values-right h = rw (counted, le-ltb 1023 n short, inside, urgent, distinct, h)
 
+-- what is judged by keys: beside any number but 8 there is no twin
+module _ (e : Fixed) (n : ℕ) (stray : Bool) (keys : ℕ → ℕ) where
+  pub judged-plain : {k : ℕ} {r : Judged} → r ≡ record { refusal = k; twin = 0 } → eqb k 8 ≡ false → k ≡ valuesRefusalBy e n stray (repeats eqb keys (e .count)) → r ≡ judgedBy e n stray keys
+  unfolding judgedBy
+  judged-plain h q p = h ∙ rw (← p, q)
+
+  pub judged-8 : {i : ℕ} → i ≡ firstBelow (repeatAt eqb keys) (e .count) → 8 ≡ valuesRefusalBy e n stray (repeats eqb keys (e .count))
+      → _≡_ {A = Judged} (record { refusal = 8; twin = i }) (judgedBy e n stray keys)
+  unfolding judgedBy
+  judged-8 h p = rw (← p, h)
+
 -- an accepted frame
 pub record Accepted (f : List ℕ) : Type 0 where
   pub frame : Framed f
@@ -177,6 +197,11 @@ unfolding frameRefusal fieldsOf
 accepted f h =
     let p = or-pass (wholeRefusal f) _ h in
     record { frame = framed f (p .0); values = valued _ _ _ _ (p .1) }
+
+-- it has no place
+pub no-place : (f : List ℕ) → frameRefusal f ≡ 0 → 0 ≡ framePlace f
+unfolding framePlace placeBeside
+no-place f z = rw z
 
 -- the end of an accepted frame is its check character
 pub last-byte : (f : List ℕ) → frameRefusal f ≡ 0 → drop (length f - 1) f ≡ checkOf (take (length f - 1) f) ∷ []

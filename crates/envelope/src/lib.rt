@@ -10,7 +10,7 @@ pub use frame::check;
 pub use refusing::LONGEST_CONTENTS;
 pub use refusing::LOWEST_PRIORITY;
 pub use refusing::MOST_DESTINATIONS;
-pub use refusing::values_refusal_by;
+pub use refusing::judged_by;
 
 // Where the destinations of a frame begin, and where the contents of a frame without destinations would; each destination takes three bytes more.
 pub const DESTINATIONS_OFFSET: usize = 5;
@@ -19,6 +19,12 @@ pub const CONTENTS_OFFSET: usize = 9;
 
 // The size of a frame without destinations and contents.
 pub const SMALLEST_FRAME: usize = 10;
+
+// The number that refuses an envelope's values, or 0; beside 8 the place of the first destination that equals an earlier one.
+pub struct Judged {
+    pub refusal: u8,
+    pub twin: u8,
+}
 
 // The fixed fields of an envelope. The destinations and the contents stay in the frame.
 pub struct Fixed {

@@ -1,10 +1,11 @@
 // The refusals of an envelope's values, 4 to 9.
 use crate::Fixed;
-use crate::keys::repeated;
+use crate::Judged;
+use crate::keys::first_seen;
 ghost use mathlib.Core.Path.{_≡_};
-ghost use lib.Dec.{eqb};
-ghost use Rattle.lists.specs.Places.{elementAt, repeats};
-ghost use Rattle.envelope.specs.Refusal.{outside, wrongVersion, valuesRefusalBy};
+ghost use Rattle.lists.specs.Places.{elementAt};
+ghost use Rattle.envelope.specs.Refusal.{outside, wrongVersion};
+ghost use Rattle.envelope.specs.Contracts.{judgedBy};
 
 pub const MOST_DESTINATIONS: u8 = 63;
 
@@ -32,27 +33,35 @@ fn wrong_version(version: u8, kind: u8) -> bool
     }
 }
 
+// A refusal of values that needs no place among the destinations, or 0.
+fn only(refusal: u8) -> Judged
+    ensures { λ r. ⌜ r ≡ record { refusal = refusal; twin = 0 } ⌝ }
+{
+    Judged { refusal, twin: 0 }
+}
+
 // Refusals 4 to 9 of the fields, n bytes of contents and the destinations' keys, or 0; stray says whether anything is out of range.
-pub fn values_refusal_by(e: Fixed, n: usize, stray: bool, keys: &[u32; 63]) -> u8
-    ensures { λ r. ⌜ r ≡ valuesRefusalBy e n stray (repeats eqb (elementAt 0 (now (keys .entry))) (e .count)) ⌝ }
+pub fn judged_by(e: Fixed, n: usize, stray: bool, keys: &[u32; 63]) -> Judged
+    ensures { λ r. ⌜ r ≡ judgedBy e n stray (elementAt 0 (now (keys .entry))) ⌝ }
 {
     if is_outside(MOST_DESTINATIONS, e.count) {
-        return 4;
+        return only(4);
     }
     if LONGEST_CONTENTS < n {
-        return 5;
+        return only(5);
     }
     if stray {
-        return 6;
+        return only(6);
     }
     if is_outside(LOWEST_PRIORITY, e.priority) {
-        return 7;
+        return only(7);
     }
-    if repeated(keys, e.count as usize) {
-        return 8;
+    let twin = first_seen(keys, e.count);
+    if twin < e.count {
+        return Judged { refusal: 8, twin };
     }
     if wrong_version(e.version, e.kind) {
-        return 9;
+        return only(9);
     }
-    0
+    only(0)
 }

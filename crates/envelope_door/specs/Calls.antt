@@ -8,6 +8,7 @@ use Rattle.buffer.specs.Writing.{lentAfter}
 use Rattle.lists.specs.Refusals.{refuse, orElse, unlessRefused}
 use Rattle.envelope.specs.Frame.{destinationsOffset, fieldsOf, destinationAt}
 use Rattle.envelope.specs.Refusal.{mostDestinations, longestContents, outside, frameRefusal}
+use Rattle.envelope.specs.Place.{framePlace}
 use Rattle.envelope_write.specs.Refusal.{sizeFor, frameWriteRefusal}
 use Rattle.envelope_write.specs.Write.{frameBytes}
 use Rattle.envelope_image.specs.Image.{envelopeSize, envelopeBytes, fieldsIn, destinationHeld}
@@ -17,6 +18,10 @@ use Rattle.envelope_image.specs.Image.{envelopeSize, envelopeBytes, fieldsIn, d
 -- the frame's number first, then 10 for an image of m bytes that is too short
 unfoldable pub pzReadRefusal : List ℕ → ℕ → ℕ
 pzReadRefusal f m = orElse (frameRefusal f) (refuse 10 (ltb m envelopeSize) 0)
+
+-- the place of the frame's number, else 0
+unfoldable pub pzReadPlace : List ℕ → ℕ
+pzReadPlace f = framePlace f
 
 -- the image after the call
 unfoldable pub pzReadImage : List ℕ → List ℕ → List ℕ

@@ -8,13 +8,14 @@ use Rattle.lists.specs.Refusals.{unlessRefused}
 use Rattle.address.specs.Address.{stationInRange, inRange, sameStation, sameAddress}
 use Rattle.envelope.specs.Frame.{lengthOf, countOf, fieldsOf, destinationAt, xorFrom}
 use Rattle.envelope.specs.Refusal.{outside, strayAt, outOfRange, wrongVersion, wholeRefusal, valuesRefusalBy, frameRefusal}
+use Rattle.envelope.specs.Place.{placeBeside, framePlace}
 use Rattle.envelope.specs.Cases.{fireBody, fireFrame}
 use Rattle.envelope_write.specs.Refusal.{frameWriteRefusal}
 use Rattle.envelope_write.specs.Write.{frameHead, frameMid, frameBody, frameBytes}
 use Rattle.envelope_write.specs.Cases.{fireText}
 use Rattle.envelope_image.specs.Image.{fieldBytes, envelopeBytes, fieldsIn, destinationHeld}
 use Rattle.envelope_image.specs.Cases.{fireImage}
-use Rattle.envelope_door.specs.Calls.{pzReadRefusal, pzReadImage, strayAck, pzWriteRefusal, pzWriteCount, pzWriteFrame}
+use Rattle.envelope_door.specs.Calls.{pzReadRefusal, pzReadPlace, pzReadImage, strayAck, pzWriteRefusal, pzWriteCount, pzWriteFrame}
 
 pub record Cases : Type 0 where
   -- a byte after the image stays
@@ -22,6 +23,9 @@ pub record Cases : Type 0 where
   pub fits : pzReadRefusal fireFrame 267 ≡ 0
   pub short : pzReadRefusal fireFrame 266 ≡ 10
   pub frame-first : pzReadRefusal fireBody 0 ≡ 1
+  -- where the frame is at fault; 0 beside 10
+  pub at : pzReadPlace fireBody ≡ 19
+  pub nowhere : pzReadPlace fireFrame ≡ 0
   -- and so does one after the frame
   pub write : pzWriteFrame fireImage fireText (replicate 20 7 ++ (8 ∷ [])) ≡ fireFrame ++ (8 ∷ [])
   pub count : pzWriteCount fireImage 4 20 ≡ 20
@@ -33,13 +37,15 @@ pub record Cases : Type 0 where
   pub stray-none : pzWriteRefusal (set (set fireImage 9 2) 4 0) 1024 19 ≡ 4
 
 pub cases : Cases
-unfolding fireBody fireFrame fireImage lengthOf countOf fieldsOf destinationAt xorFrom anyBelow sameAt repeatAt repeats elementAt joined upTo unlessRefused stationInRange inRange sameStation sameAddress outside strayAt outOfRange wrongVersion wholeRefusal valuesRefusalBy frameRefusal frameWriteRefusal frameHead frameMid frameBody frameBytes fieldBytes envelopeBytes fieldsIn destinationHeld pzReadRefusal pzReadImage strayAck pzWriteRefusal pzWriteCount pzWriteFrame
+unfolding fireBody fireFrame fireImage lengthOf countOf fieldsOf destinationAt xorFrom anyBelow sameAt repeatAt repeats elementAt joined upTo unlessRefused stationInRange inRange sameStation sameAddress outside strayAt outOfRange wrongVersion wholeRefusal valuesRefusalBy frameRefusal frameWriteRefusal frameHead frameMid frameBody frameBytes fieldBytes envelopeBytes fieldsIn destinationHeld placeBeside framePlace pzReadRefusal pzReadPlace pzReadImage strayAck pzWriteRefusal pzWriteCount pzWriteFrame
 cases =
     record {
       read = refl;
       fits = refl;
       short = refl;
       frame-first = refl;
+      at = refl;
+      nowhere = refl;
       write = refl;
       count = refl;
       none = refl;

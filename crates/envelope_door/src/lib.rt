@@ -7,15 +7,19 @@ use envelope_image::ENVELOPE_SIZE;
 use envelope_read::Read;
 ghost use mathlib.Core.Path.{_≡_};
 ghost use lib.ListN.{length};
-ghost use Rattle.envelope_door.specs.Calls.{pzReadRefusal, pzReadImage, strayAck, pzWriteRefusal, pzWriteCount, pzWriteFrame};
+ghost use Rattle.envelope_door.specs.Calls.{pzReadRefusal, pzReadPlace, pzReadImage, strayAck, pzWriteRefusal, pzWriteCount, pzWriteFrame};
 
-// Reads a frame, and writes its image.
+// Reads a frame, and writes its image; `place` is where a refused frame is at fault, else 0.
 #[no_mangle]
-pub extern "C" fn pz_read(frame: &[u8], image: &mut [u8]) -> u8
-    ensures { λ r. ⌜ (r ≡ pzReadRefusal (now (frame .entry)) (length (now (image .entry)))) × (now (image .exit) ≡ pzReadImage (now (frame .entry)) (now (image .entry))) ⌝ }
+pub extern "C" fn pz_read(frame: &[u8], image: &mut [u8], place: &mut u16) -> u8
+    ensures { λ r. ⌜ (r ≡ pzReadRefusal (now (frame .entry)) (length (now (image .entry)))) × (now (place .exit) ≡ pzReadPlace (now (frame .entry))) × (now (image .exit) ≡ pzReadImage (now (frame .entry)) (now (image .entry))) ⌝ }
 {
+    *place = 0;
     match envelope_read::read_frame(frame) {
-        Read::Refused(refusal) => refusal,
+        Read::Refused(refusal, at) => {
+            *place = at;
+            refusal
+        }
         Read::Envelope(e) => {
             if image.len() < ENVELOPE_SIZE {
                 return 10;

@@ -11,13 +11,16 @@ use Rattle.envelope.specs.Frame.{lengthOf, countOf, fieldsOf, destinationAt, xo
 use Rattle.envelope.specs.Refusal.{outside, strayAt, outOfRange, wrongVersion, wholeRefusal, valuesRefusalBy, frameRefusal}
 use Rattle.envelope.specs.Cases.{fireBody, fireFrame, fireFields}
 use Rattle.envelope_read.specs.declared.Read.the-variants.{Envelope, Refused}
-use Rattle.envelope_read.specs.Read.{readRefusal, readFields, readFrameOf}
+use Rattle.envelope.specs.Place.{firstTwin, strayPlace, placeBeside, framePlace}
+use Rattle.envelope_read.specs.Read.{readRefusal, readPlace, readFields, readFrameOf}
 use Rattle.envelope_read.specs.Parts.{contentsOf, contentsOffsetOf, destinationsOf}
 
 pub record Cases : Type 0 where
   pub read : readFrameOf fireFrame ≡ Envelope fireFields
-  pub refused : readFrameOf [] ≡ Refused 1
-  pub refusal : readRefusal (readFrameOf []) ≡ 1
+  pub refused : readFrameOf (9 ∷ []) ≡ Refused 1 1
+  pub refusal : readRefusal (readFrameOf (9 ∷ [])) ≡ 1
+  pub place : readPlace (readFrameOf (9 ∷ [])) ≡ 1
+  pub no-place : readPlace (readFrameOf fireFrame) ≡ 0
   -- beside a refusal every field is 0
   pub zeros : readFields (readFrameOf []) ≡ record { source = addressOf 0 0 0; count = 0; length = 0; priority = 0; version = 0; ack = false; seq = record { 0 = 0 }; kind = 0 }
   pub contents : contentsOf fireFrame ≡ 70 ∷ 105 ∷ 114 ∷ 101 ∷ []
@@ -28,12 +31,14 @@ pub record Cases : Type 0 where
   pub no-destinations : destinationsOf [] ≡ record { count = 0; addresses = replicate 63 (addressOf 0 0 0) }
 
 pub cases : Cases
-unfolding fireBody fireFrame fireFields lengthOf countOf fieldsOf destinationAt xorFrom anyBelow sameAt repeatAt repeats firsts row unlessRefused stationInRange inRange sameStation sameAddress outside strayAt outOfRange wrongVersion wholeRefusal valuesRefusalBy frameRefusal readFrameOf contentsOf contentsOffsetOf destinationsOf
+unfolding fireBody fireFrame fireFields lengthOf countOf fieldsOf destinationAt xorFrom anyBelow sameAt repeatAt repeats firsts row unlessRefused stationInRange inRange sameStation sameAddress outside strayAt outOfRange wrongVersion wholeRefusal valuesRefusalBy frameRefusal firstTwin strayPlace placeBeside framePlace readFrameOf contentsOf contentsOffsetOf destinationsOf
 cases =
     record {
       read = refl;
       refused = refl;
       refusal = refl;
+      place = refl;
+      no-place = refl;
       zeros = refl;
       contents = refl;
       begins = refl;

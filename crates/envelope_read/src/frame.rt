@@ -1,4 +1,5 @@
 // A frame's fields where they stand (appendix A, <envelope>), whether it is whole (refusals 1 to 3), and the keys of its destinations.
+use crate::Fault;
 use address::Seq;
 use address_bytes::PACKED_SIZE;
 use envelope::DESTINATIONS_OFFSET;
@@ -9,7 +10,8 @@ ghost use Prim.Native.Nat.{_≤_};
 ghost use Rattle.lists.specs.Places.{row};
 ghost use Rattle.envelope.specs.Frame.{fieldsOf, destinationAt};
 ghost use Rattle.envelope.specs.Contracts.{keyAt};
-ghost use Rattle.envelope.specs.Refusal.{mostDestinations, wholeRefusal};
+ghost use Rattle.envelope.specs.Refusal.{mostDestinations};
+ghost use Rattle.envelope_read.specs.Contracts.{wholeFault};
 
 // The fixed fields; a byte past the end counts as 0.
 pub fn fields_of(frame: &[u8]) -> Fixed
@@ -33,23 +35,35 @@ pub fn fields_of(frame: &[u8]) -> Fixed
     }
 }
 
-// Refusals 1 to 3, or 0.
-pub fn whole_refusal(frame: &[u8]) -> u8
-    ensures { λ r. ⌜ r ≡ wholeRefusal (now (frame .entry)) ⌝ }
+// Refusals 1 to 3 and the place of each, or 0 and 0.
+pub fn whole_fault(frame: &[u8]) -> Fault
+    ensures { λ r. ⌜ r ≡ wholeFault (now (frame .entry)) ⌝ }
 {
     let n = frame.len();
     let w = buffer::word_at(frame, 3) as usize;
     let size = SMALLEST_FRAME + PACKED_SIZE * (w % 64) + w / 64;
     if n < size {
-        return 1;
+        return Fault {
+            refusal: 1,
+            place: n as u16,
+        };
     }
     if size < n {
-        return 2;
+        return Fault {
+            refusal: 2,
+            place: size as u16,
+        };
     }
-    if envelope::check(&frame[..n - 1]) == frame[n - 1] {
-        0
-    } else {
-        3
+    let last = n - 1;
+    if envelope::check(&frame[..last]) != frame[last] {
+        return Fault {
+            refusal: 3,
+            place: last as u16,
+        };
+    }
+    Fault {
+        refusal: 0,
+        place: 0,
     }
 }
 

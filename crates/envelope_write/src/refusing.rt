@@ -62,9 +62,9 @@ pub fn frame_write_refusal(e: Fixed, addresses: [Address; 63], n: usize, room: u
     let count = e.count as usize;
     let stray = out_of_range(e, addresses);
     let keys = keys_of(addresses, count);
-    let bad = envelope::values_refusal_by(e, n, stray, &keys);
-    if bad != 0 {
-        return bad;
+    let judged = envelope::judged_by(e, n, stray, &keys);
+    if judged.refusal != 0 {
+        return judged.refusal;
     }
     let size = SMALLEST_FRAME + PACKED_SIZE * count + n;
     if room < size {

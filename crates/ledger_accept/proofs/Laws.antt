@@ -10,14 +10,15 @@ use Rattle.buffer.specs.Bytes.{Bytes}
 use Rattle.lists.specs.Places.{anyBelow}
 use Rattle.lists.specs.Refusals.{unlessRefused}
 use Rattle.lists.proofs.Bools.{or-no-left, and-both}
-use Rattle.lists.proofs.Refusals.{pass, or-refused, taken, refused}
+use Rattle.lists.proofs.Refusals.{pass, or-pass, or-refused, taken, refused}
 use Rattle.address.specs.declared.Port.{Port}
 use Rattle.address.specs.declared.Address.{Address}
 use Rattle.address.specs.Address.{inRange}
 use Rattle.envelope.specs.declared.Fixed.{Fixed}
 use Rattle.envelope.specs.Frame.{destinationsOffset, fieldsOf, destinationAt}
 use Rattle.envelope.specs.Refusal.{frameRefusal}
-use Rattle.envelope.proofs.Laws.{part-bytes, part-from, destination-ranged, never-stray}
+use Rattle.envelope.specs.Place.{framePlace}
+use Rattle.envelope.proofs.Laws.{no-place, part-bytes, part-from, destination-ranged, never-stray}
 use Rattle.table.specs.declared.Table.{Table}
 use Rattle.table.specs.Table.{tableInRange, callInRange}
 use Rattle.ledger.specs.declared.Ledger.{Ledger}
@@ -113,9 +114,10 @@ module _ (l : Ledger) (e : Fixed) (stray : Bool) (arrival : Port) (t : Table) (t
 
 module _ (l : Ledger) (f : List ℕ) (arrival : Port) (t : Table) (ticks : ℕ) where
   -- beside a refusal no leg is added
-  pub accept-refused : {k : ℕ} → k ≡ acceptRefusal l f arrival t ticks → (k ≡ 0 → ⊥) → _≡_ {A = Added} (record { refusal = k; added = 0; ledger = l }) (acceptOf l f arrival t ticks)
+  pub accept-refused : {k place : ℕ} → k ≡ acceptRefusal l f arrival t ticks → (k ≡ 0 → ⊥) → place ≡ framePlace f
+      → _≡_ {A = Added} (record { refusal = k; added = 0; place = place; ledger = l }) (acceptOf l f arrival t ticks)
   unfolding acceptOf
-  accept-refused {k} p h = λ i. record { refusal = p i; added = none i; ledger = same i }
+  accept-refused {k} p h at = λ i. record { refusal = p i; added = none i; place = at i; ledger = same i }
     where
       none : 0 ≡ unlessRefused (acceptRefusal l f arrival t ticks) (cond (fieldsOf f .ack) (fieldsOf f .count) 0) 0
       none = rw (← p) (sym (refused _ 0 k h))
@@ -133,6 +135,10 @@ module _ (l : Ledger) (f : List ℕ) (arrival : Port) (t : Table) (ticks : ℕ) 
   call-refusal b z p = rw (z, p, never-stray (drop destinationsOffset f) (part-bytes destinationsOffset f b) (fieldsOf f .count))
 
   module _ (z : acceptRefusal l f arrival t ticks ≡ 0) (e : Fixed) (p : e ≡ fieldsOf f) where
+    nowhere : 0 ≡ framePlace f
+    unfolding acceptRefusal
+    nowhere = no-place f (or-pass (frameRefusal f) _ z .0)
+
     whole : Ledger
     whole = withLegs l (fieldsOf f) (destinationAt (drop destinationsOffset f)) arrival t ticks
 
@@ -146,14 +152,14 @@ module _ (l : Ledger) (f : List ℕ) (arrival : Port) (t : Table) (ticks : ℕ) 
     ledger-after : {b : Bool} → e .ack ≡ b → unlessRefused (acceptRefusal l f arrival t ticks) (cond (fieldsOf f .ack) whole l) l ≡ cond b whole l
     ledger-after a = taken _ _ z ∙ ap (λ (x : Bool). cond x whole l) (asked a)
 
-    pub accept-quiet : e .ack ≡ false → _≡_ {A = Added} (record { refusal = 0; added = 0; ledger = l }) (acceptOf l f arrival t ticks)
+    pub accept-quiet : e .ack ≡ false → _≡_ {A = Added} (record { refusal = 0; added = 0; place = 0; ledger = l }) (acceptOf l f arrival t ticks)
     unfolding acceptOf whole
-    accept-quiet a = λ i. record { refusal = sym z i; added = sym (refusal-added a) i; ledger = sym (ledger-after a) i }
+    accept-quiet a = λ i. record { refusal = sym z i; added = sym (refusal-added a) i; place = nowhere i; ledger = sym (ledger-after a) i }
 
     pub accept-added : e .ack ≡ true → {m : Ledger} → m ≡ withLegs l e (destinationAt (take (length f - 5) (drop 5 f))) arrival t ticks
-        → _≡_ {A = Added} (record { refusal = 0; added = e .count; ledger = m }) (acceptOf l f arrival t ticks)
+        → _≡_ {A = Added} (record { refusal = 0; added = e .count; place = 0; ledger = m }) (acceptOf l f arrival t ticks)
     unfolding acceptOf whole
     accept-added a {m} h =
         let c : e .count ≡ fieldsOf f .count = ap (λ (x : Fixed). x .count) p in
         let w : m ≡ whole = h ∙ rw (p, part-from 5 f) in
-        λ i. record { refusal = sym z i; added = (c ∙ sym (refusal-added a)) i; ledger = (w ∙ sym (ledger-after a)) i }
+        λ i. record { refusal = sym z i; added = (c ∙ sym (refusal-added a)) i; place = nowhere i; ledger = (w ∙ sym (ledger-after a)) i }

@@ -1,4 +1,4 @@
--- Accept (document 01, "The ledger of legs"): a frame, an arrival port, a table and a number of ticks.
+-- Accept (document 01, "The ledger of legs"; document 02, Seven): a frame, an arrival port, a table and a number of ticks.
 use Prim.Native.Nat.{ℕ, _+_, _-_}
 use mathlib.Core.Bool.{Bool, not, _&&_, _||_, cond}
 use mathlib.Core.List.{List}
@@ -14,6 +14,7 @@ use Rattle.address.specs.Address.{largestPort, sameAddress}
 use Rattle.envelope.specs.declared.Fixed.{Fixed}
 use Rattle.envelope.specs.Frame.{destinationsOffset, fieldsOf, destinationAt}
 use Rattle.envelope.specs.Refusal.{strayAt, frameRefusal}
+use Rattle.envelope.specs.Place.{framePlace}
 use Rattle.table.specs.declared.Choice.{Choice}
 use Rattle.table.specs.declared.Table.{Table}
 use Rattle.table.specs.Table.{tableInRange, chooseOf, choiceRefusal}
@@ -73,12 +74,14 @@ unfoldable pub withLegs : Ledger → Fixed → (ℕ → Address) → Port → Ta
 withLegs l e d arrival t ticks =
     record { count = l .count + e .count; legs = sets (l .legs) (l .count) (firsts (legForAt e d arrival t ticks) (e .count)) }
 
--- the legs are added, all of them, if the message asks for an acknowledgement; beside a refusal none, and the ledger is as it was
+-- the legs are added, all of them, if the message asks for an acknowledgement; beside a refusal none, and the ledger is as it was. The place is the frame's,
+-- beside every later number 0
 unfoldable pub acceptOf : Ledger → List ℕ → Port → Table → ℕ → Added
 acceptOf l f arrival t ticks =
     record {
       refusal = acceptRefusal l f arrival t ticks;
       added = unlessRefused (acceptRefusal l f arrival t ticks) (cond (fieldsOf f .ack) (fieldsOf f .count) 0) 0;
+      place = framePlace f;
       ledger =
           unlessRefused (acceptRefusal l f arrival t ticks)
           (cond (fieldsOf f .ack) (withLegs l (fieldsOf f) (destinationAt (drop destinationsOffset f)) arrival t ticks) l)

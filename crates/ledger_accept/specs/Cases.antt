@@ -10,6 +10,7 @@ use Rattle.address.specs.declared.Port.{Port}
 use Rattle.address.specs.Address.{addressOf, stationInRange, inRange, sameStation, sameAddress}
 use Rattle.envelope.specs.Frame.{lengthOf, countOf, fieldsOf, destinationAt, xorFrom}
 use Rattle.envelope.specs.Refusal.{outside, strayAt, outOfRange, wrongVersion, wholeRefusal, valuesRefusalBy, frameRefusal}
+use Rattle.envelope.specs.Place.{placeBeside, framePlace}
 use Rattle.envelope.specs.Cases.{fireBody, fireFrame, changed}
 use Rattle.table.specs.declared.Target.the-variants.{One, Everything}
 use Rattle.table.specs.declared.Table.{Table}
@@ -35,33 +36,36 @@ fireLegs = leg (addressOf 9 1 2) (addressOf 9 20 5) 300 5 Open ∷ leg (addressO
 
 pub record Cases : Type 0 where
   -- an open leg for the destination with a route, an undeliverable one without ticks for the other
-  pub added : acceptOf (ledger []) fireFrame begun toHill 5 ≡ record { refusal = 0; added = 2; ledger = ledger fireLegs }
+  pub added : acceptOf (ledger []) fireFrame begun toHill 5 ≡ record { refusal = 0; added = 2; place = 0; ledger = ledger fireLegs }
   -- the own station is local, and so has no need of a route
   pub local : acceptOf (ledger []) fireFrame begun (single 21 0 (entry Everything 2 true)) 5 .ledger
       ≡ ledger (leg (addressOf 9 1 2) (addressOf 9 20 5) 300 0 Undeliverable ∷ leg (addressOf 9 1 2) (addressOf 9 21 5) 300 5 Open ∷ [])
   -- an open leg of another source with the same number is no 62, nor is one of the same source with another number
   pub other-source : acceptOf (ledger (leg (addressOf 9 2 2) (addressOf 9 20 5) 300 1 Open ∷ [])) fireFrame begun toHill 5
-      ≡ record { refusal = 0; added = 2; ledger = ledger (leg (addressOf 9 2 2) (addressOf 9 20 5) 300 1 Open ∷ fireLegs) }
+      ≡ record { refusal = 0; added = 2; place = 0; ledger = ledger (leg (addressOf 9 2 2) (addressOf 9 20 5) 300 1 Open ∷ fireLegs) }
   pub other-number : acceptOf (ledger (leg (addressOf 9 1 2) (addressOf 9 20 5) 301 1 Open ∷ [])) fireFrame begun toHill 5 .refusal ≡ 0
   pub settled : acceptOf (ledger (leg (addressOf 9 1 2) (addressOf 9 20 5) 300 0 Acknowledged ∷ [])) fireFrame begun toHill 5 .refusal ≡ 0
   -- to any destination
   pub busy : acceptOf (ledger (leg (addressOf 9 1 2) (addressOf 12 7 1) 300 1 Open ∷ [])) fireFrame begun toHill 5
-      ≡ record { refusal = 62; added = 0; ledger = ledger (leg (addressOf 9 1 2) (addressOf 12 7 1) 300 1 Open ∷ []) }
+      ≡ record { refusal = 62; added = 0; place = 0; ledger = ledger (leg (addressOf 9 1 2) (addressOf 12 7 1) 300 1 Open ∷ []) }
   pub busy-waiting : acceptOf (ledger (leg (addressOf 9 1 2) (addressOf 12 7 1) 300 1 Waiting ∷ [])) fireFrame begun toHill 5 .refusal ≡ 62
   pub no-ticks : acceptOf (ledger (leg (addressOf 9 1 2) (addressOf 12 7 1) 300 1 Open ∷ [])) fireFrame begun toHill 0 .refusal ≡ 61
   pub full : acceptOf (record { count = 127; legs = replicate 128 (hill 7 0 Acknowledged) }) fireFrame begun toHill 5 .refusal ≡ 63
   pub room : acceptOf (record { count = 126; legs = replicate 128 (hill 7 0 Acknowledged) }) fireFrame begun toHill 5 .refusal ≡ 0
   -- without <ack_req> nothing is added, and 61 to 63 are not tried
   pub quiet : acceptOf (ledger (leg (addressOf 9 1 2) (addressOf 12 7 1) 300 1 Open ∷ [])) (changed 13 88) begun toHill 0
-      ≡ record { refusal = 0; added = 0; ledger = ledger (leg (addressOf 9 1 2) (addressOf 12 7 1) 300 1 Open ∷ []) }
+      ≡ record { refusal = 0; added = 0; place = 0; ledger = ledger (leg (addressOf 9 1 2) (addressOf 12 7 1) 300 1 Open ∷ []) }
   -- the frame's number, then 50, 51 and 60
   pub frame : acceptOf (ledger (hill 7 0 Open ∷ [])) fireBody (record { 0 = 64 }) (single 1024 0 (entry Everything 2 true)) 0 .refusal ≡ 1
+  pub frame-at : acceptOf (ledger (hill 7 0 Open ∷ [])) fireBody (record { 0 = 64 }) (single 1024 0 (entry Everything 2 true)) 0 .place ≡ 19
   pub table : acceptOf (ledger (hill 7 0 Open ∷ [])) fireFrame (record { 0 = 64 }) (single 1024 0 (entry Everything 2 true)) 0 .refusal ≡ 50
   pub arrival : acceptOf (ledger (hill 7 0 Open ∷ [])) fireFrame (record { 0 = 64 }) toHill 0 .refusal ≡ 51
   pub broken : acceptOf (ledger (hill 7 0 Open ∷ [])) fireFrame begun toHill 0 .refusal ≡ 60
+  -- which has no place
+  pub broken-at : acceptOf (ledger (hill 7 0 Open ∷ [])) fireFrame begun toHill 0 .place ≡ 0
 
 pub cases : Cases
-unfolding fireBody fireFrame toHill fireLegs anyBelow firstFrom firstBelow sameAt repeatAt repeats elementAt firsts unlessRefused stationInRange inRange sameStation sameAddress lengthOf countOf fieldsOf destinationAt xorFrom outside strayAt outOfRange wrongVersion wholeRefusal valuesRefusalBy frameRefusal entryAt isOwn covers qualifies qualifiesAt hasRoute outPort outChoice targetInRange entryInRange strayEntry tableInRange callInRange chooseOf legAt isOpen isOpenLeg alike ticksObey legObeys brokenAt obeys isOpenFrom isOpenFromAt legsRefusal callRefusal acceptRefusal legFor legForAt withLegs acceptOf
+unfolding fireBody fireFrame toHill fireLegs anyBelow firstFrom firstBelow sameAt repeatAt repeats elementAt firsts unlessRefused stationInRange inRange sameStation sameAddress lengthOf countOf fieldsOf destinationAt xorFrom outside strayAt outOfRange wrongVersion wholeRefusal valuesRefusalBy frameRefusal placeBeside framePlace entryAt isOwn covers qualifies qualifiesAt hasRoute outPort outChoice targetInRange entryInRange strayEntry tableInRange callInRange chooseOf legAt isOpen isOpenLeg alike ticksObey legObeys brokenAt obeys isOpenFrom isOpenFromAt legsRefusal callRefusal acceptRefusal legFor legForAt withLegs acceptOf
 cases =
     record {
       added = refl;
@@ -76,7 +80,9 @@ cases =
       room = refl;
       quiet = refl;
       frame = refl;
+      frame-at = refl;
       table = refl;
       arrival = refl;
       broken = refl;
+      broken-at = refl;
     }

@@ -13,7 +13,7 @@ ghost use mathlib.Core.Path.{_≡_};
 ghost use mathlib.Core.Bool.{false};
 ghost use Prim.Native.Nat.{_≤_};
 ghost use Rattle.lists.specs.Places.{anyBelow};
-ghost use Rattle.envelope_read.specs.Read.{readRefusal};
+ghost use Rattle.envelope_read.specs.Read.{readRefusal, readPlace};
 ghost use Rattle.ledger_accept.specs.Accept.{isOpenFrom, isOpenFromAt, legsRefusal, callRefusal};
 ghost use Rattle.ledger.specs.Rules.{mostLegs};
 
@@ -23,7 +23,17 @@ pub fn read_refusal(answer: Read) -> u8
 {
     match answer {
         Read::Envelope(_) => 0,
-        Read::Refused(refusal) => refusal,
+        Read::Refused(refusal, _) => refusal,
+    }
+}
+
+// Its place, likewise.
+pub fn read_place(answer: Read) -> u16
+    ensures { λ r. ⌜ r ≡ readPlace answer ⌝ }
+{
+    match answer {
+        Read::Envelope(_) => 0,
+        Read::Refused(_, place) => place,
     }
 }
 

@@ -49,8 +49,8 @@ tick-put b {l} {t} e f g =
 
 pub accept-put : (b f : List ℕ) (arrival : Port) (table : List ℕ) (ticks : ℕ) {l : Ledger} {t : Table} {a : Added} {r : ℕ} {m : List ℕ}
     → l ≡ ledgerOf b → t ≡ tableOf table → a ≡ acceptOf l f arrival t ticks → Put b (a .ledger) (a .refusal) (a .ledger) r m
-    → (r ≡ pzAccept b f arrival table ticks .refusal) × (a .added ≡ pzAccept b f arrival table ticks .added) × (m ≡ pzAcceptImage b f arrival table ticks)
+    → (r ≡ pzAccept b f arrival table ticks .refusal) × (a .added ≡ pzAccept b f arrival table ticks .added) × (a .place ≡ pzAccept b f arrival table ticks .place) × (m ≡ pzAcceptImage b f arrival table ticks)
 unfolding pzAccept pzAcceptImage
 accept-put b f arrival table ticks {l} {t} {a} e q h g =
     let w : a ≡ acceptOf (ledgerOf b) f arrival (tableOf table) ticks = rw (e, q) at h in
-    (g .0 ∙ ap (λ (x : Added). x .refusal) w, ap (λ (x : Added). x .added) w, g .1 ∙ rw w)
+    (g .0 ∙ ap (λ (x : Added). x .refusal) w, ap (λ (x : Added). x .added) w, ap (λ (x : Added). x .place) w, g .1 ∙ rw w)

@@ -8,7 +8,7 @@ ghost use mathlib.Core.Path.{_≡_};
 ghost use Rattle.address.specs.Address.{addressOf};
 ghost use Rattle.ledger_door.specs.Calls.{replyOf, pzAnswer, pzAnswerImage, pzTick, pzTickImage, pzClear, pzClearImage, pzAccept, pzAcceptImage};
 
-// Takes a frame that came in by the arrival port; `added` is how many legs were added.
+// Takes a frame that came in by the arrival port; `added` is how many legs were added, `place` where a refused frame is at fault, else 0.
 #[no_mangle]
 pub extern "C" fn pz_accept(
     ledger: &mut [u8],
@@ -17,13 +17,15 @@ pub extern "C" fn pz_accept(
     table: &[u8],
     ticks: u16,
     added: &mut u8,
+    place: &mut u16,
 ) -> u8
-    ensures { λ r. ⌜ (r ≡ pzAccept (now (ledger .entry)) (now (frame .entry)) (record { 0 = arrival }) (now (table .entry)) ticks .refusal) × (now (added .exit) ≡ pzAccept (now (ledger .entry)) (now (frame .entry)) (record { 0 = arrival }) (now (table .entry)) ticks .added) × (now (ledger .exit) ≡ pzAcceptImage (now (ledger .entry)) (now (frame .entry)) (record { 0 = arrival }) (now (table .entry)) ticks) ⌝ }
+    ensures { λ r. ⌜ (r ≡ pzAccept (now (ledger .entry)) (now (frame .entry)) (record { 0 = arrival }) (now (table .entry)) ticks .refusal) × (now (added .exit) ≡ pzAccept (now (ledger .entry)) (now (frame .entry)) (record { 0 = arrival }) (now (table .entry)) ticks .added) × (now (place .exit) ≡ pzAccept (now (ledger .entry)) (now (frame .entry)) (record { 0 = arrival }) (now (table .entry)) ticks .place) × (now (ledger .exit) ≡ pzAcceptImage (now (ledger .entry)) (now (frame .entry)) (record { 0 = arrival }) (now (table .entry)) ticks) ⌝ }
 {
     let t = table_image::table_of(table);
     let l = ledger_image::ledger_of(ledger);
     let after = ledger_accept::accept(l, frame, Port(arrival), t, ticks);
     *added = after.added;
+    *place = after.place;
     let m = after.ledger;
     ledger_image::put_back(ledger, after.refusal, m, m.count)
 }

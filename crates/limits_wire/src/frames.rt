@@ -107,7 +107,8 @@ fn last(to: Destinations) -> Address {
     all[(to.count as usize + 62) % 63]
 }
 
-// What a frame is read as: the number, how many destinations, how many bytes of contents; of an envelope also its fixed fields and its last destination.
+// What a frame is read as: the number, how many destinations, how many bytes of contents; of an envelope also its fixed fields and its last destination, of a
+// refused frame the place.
 fn report(frame: &[u8]) {
     let to = envelope_read::destinations_of(frame);
     let contents = envelope_read::contents_of(frame);
@@ -117,11 +118,14 @@ fn report(frame: &[u8]) {
             print_fields(e);
             print_address(last(to))
         }
-        Read::Refused(k) => answered(k, to.count as u64, contents.len() as u64),
+        Read::Refused(k, place) => {
+            answered(k, to.count as u64, contents.len() as u64);
+            value(place as u64)
+        }
     }
 }
 
-// f length, then the frame's bytes: number, destinations, contents; where the number is 0 then the source's brigade, node and port, count, length,
+// f length, then the frame's bytes: number, destinations, contents; of a refused frame then the place; where the number is 0 then the source's brigade, node and port, count, length,
 // priority, version, ack, sequence number and type, and the last destination's brigade, node and port
 pub fn read(v: &[u16; 64]) {
     let frame = bytes(v);

@@ -165,6 +165,13 @@ pub first-none : (p : ℕ → Bool) (n : ℕ) → anyBelow p n ≡ false → fir
 unfolding firstBelow
 first-none p n h = from-none p 0 n (rw zero-add (none-below p n h)) ∙ zero-add n
 
+pub first-most : (p : ℕ → Bool) (n : ℕ) → firstBelow p n ≤ n
+first-most p n = go (anyBelow p n) refl
+  where
+    go : (b : Bool) → anyBelow p n ≡ b → firstBelow p n ≤ n
+    go true e = let f = first-found p n e in omega (arith, f .below)
+    go false e = let f = first-none p n e in omega (arith, f)
+
 pub first-past : (p : ℕ → Bool) (n : ℕ) → n ≤ firstBelow p n → anyBelow p n ≡ false
 first-past p n h = go (anyBelow p n) refl
   where
@@ -190,11 +197,18 @@ unfolding firstBelow
 first-agree p p' n h = from-agree p p' 0 n (λ j l m. h j (omega arith))
 
 -- two values are told apart alike, whatever they are and whatever tells them apart
-pub repeats-agree : {A B : Type 0} (same : A → A → Bool) (same' : B → B → Bool) (d : ℕ → A) (d' : ℕ → B) (n : ℕ)
-    → ((i j : ℕ) → i < n → j < n → same (d i) (d j) ≡ same' (d' i) (d' j)) → repeats same d n ≡ repeats same' d' n
-unfolding repeats repeatAt sameAt
-repeats-agree same same' d d' n h =
-    any-agree (repeatAt same d) (repeatAt same' d') n (λ i l. any-agree (sameAt same d i) (sameAt same' d' i) i (λ j m. h i j l (omega arith)))
+module _ {A B : Type 0} (same : A → A → Bool) (same' : B → B → Bool) (d : ℕ → A) (d' : ℕ → B) (n : ℕ)
+    (h : (i j : ℕ) → i < n → j < n → same (d i) (d j) ≡ same' (d' i) (d' j)) where
+  repeat-agree : (i : ℕ) → i < n → repeatAt same d i ≡ repeatAt same' d' i
+  unfolding repeatAt sameAt
+  repeat-agree i l = any-agree (sameAt same d i) (sameAt same' d' i) i (λ j m. h i j l (omega arith))
+
+  pub repeats-agree : repeats same d n ≡ repeats same' d' n
+  unfolding repeats
+  repeats-agree = any-agree (repeatAt same d) (repeatAt same' d') n repeat-agree
+
+  pub first-repeat-agree : firstBelow (repeatAt same d) n ≡ firstBelow (repeatAt same' d') n
+  first-repeat-agree = first-agree (repeatAt same d) (repeatAt same' d') n repeat-agree
 
 -- ---- the values at the places below n
 

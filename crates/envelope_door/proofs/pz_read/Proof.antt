@@ -41,8 +41,8 @@ put-envelope-requires c κs = search needs
 returns-2 : tie.Need-returns-2
 returns-2 c =
     let f = c .before .before .before .before .before .before .args .frame .now in
-    let r = frame-refused f _ (sym (c .before .refusal .given .1) ∙ c .before .before .before .read-frame .ensures .0) in
-    read-refused f (c .before .before .before .before .before .before .args .image .now) (r .1) (r .0)
+    let r = frame-refused f _ _ (sym (c .before .refusal .given .1) ∙ c .before .before .before .read-frame .ensures .0) in
+    read-refused f (c .before .before .before .before .before .before .args .image .now) (r .1) (r .0) (r .2)
 
 same-length : tie.Need-same-length
 same-length c = search needs

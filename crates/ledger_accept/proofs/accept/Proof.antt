@@ -4,7 +4,7 @@ use borrow.Author.Tests.{not-true, not-false}
 use Rattle.buffer.specs.Bytes.{Bytes}
 use Rattle.envelope.specs.Frame.{fieldsOf}
 use Rattle.envelope.specs.Refusal.{frameRefusal}
-use Rattle.envelope.proofs.Laws.{accepted}
+use Rattle.envelope.proofs.Laws.{accepted, no-place}
 use Rattle.envelope_read.proofs.Laws.{Opened, read-envelope, read-refused}
 use Rattle.ledger.proofs.Laws.{obedient}
 use Rattle.ledger_accept.specs.Accept.{acceptRefusal}
@@ -38,24 +38,45 @@ enum-told c = search needs
 read-refusal-requires : tie.Need-read-refusal-requires
 read-refusal-requires c κs = search needs
 
+read-place-requires : tie.Need-read-place-requires
+read-place-requires c κs = search needs
+
+none-added-requires : tie.Need-none-added-requires
+none-added-requires c κs = search needs
+
 returns : tie.Need-returns
 returns c =
-    let f = c .before .before .before .before .before .args .frame .now in
-    let r = read-refused f _ (sym (c .before .enum-told .given .1) ∙ c .before .before .before .read-frame .ensures .0) in
-    accept-refused (c .before .before .before .before .before .args .l) f (c .before .before .before .before .before .args .arrival) (c .before .before .before .before .before .args .table) (c .before .before .before .before .before .args .ticks)
-    (c .read-refusal .ensures ∙ c .before .before .before .read-frame .ensures .1 .0 ∙ read-refusal (c .before .before .before .before .before .args .l) f (c .before .before .before .before .before .args .arrival) (c .before .before .before .before .before .args .table) (c .before .before .before .before .before .args .ticks) (r .0))
-    (λ z. r .0 (sym (c .read-refusal .ensures ∙ c .before .before .before .read-frame .ensures .1 .0) ∙ z))
+    let s = c .before .before in
+    let a = s .before .before .before .before .before .args in
+    let f = a .frame .now in
+    let e = s .before .before .before .read-frame .ensures in
+    let r = read-refused f _ _ (sym (s .before .enum-told .given .1) ∙ e .0) in
+    let n = s .read-refusal .ensures ∙ e .1 .0 in
+    c .none-added .ensures ∙ accept-refused (a .l) f (a .arrival) (a .table) (a .ticks)
+    (n ∙ read-refusal (a .l) f (a .arrival) (a .table) (a .ticks) (r .0))
+    (λ z. r .0 (sym n ∙ z))
+    (c .before .read-place .ensures ∙ e .1 .1 .0)
 
 call-refusal-requires : tie.Need-call-refusal-requires
 call-refusal-requires c κs = search needs
 
+none-added-requires-2 : tie.Need-none-added-requires-2
+none-added-requires-2 c κs = search needs
+
 returns-2 : tie.Need-returns-2
-returns-2 c = accept-refused (c .before .before .before .before .before .before .before .args .l) (c .before .before .before .before .before .before .before .args .frame .now) (c .before .before .before .before .before .before .before .args .arrival) (c .before .before .before .before .before .before .before .args .table) (c .before .before .before .before .before .before .before .args .ticks) (judged (c .before)) (c .if1 .taken)
+returns-2 c =
+    let s = c .before .before in
+    let a = s .before .before .before .before .before .before .args in
+    c .none-added2 .ensures ∙ accept-refused (a .l) (a .frame .now) (a .arrival) (a .table) (a .ticks) (judged s) (c .before .if1 .taken) (no-place _ (opened s .none))
+
+none-added-requires-3 : tie.Need-none-added-requires-3
+none-added-requires-3 c κs = search needs
 
 returns-3 : tie.Need-returns-3
 returns-3 c =
-    accept-quiet (c .before .before .before .before .before .before .before .before .before .args .l) (c .before .before .before .before .before .before .before .before .before .args .frame .now) (c .before .before .before .before .before .before .before .before .before .args .arrival) (c .before .before .before .before .before .before .before .before .before .args .table) (c .before .before .before .before .before .before .before .before .before .args .ticks) (sym (judged (c .before .before .before)) ∙ c .before .before .if1 .left) _ (opened (c .before .before .before) .same)
-    (not-true _ (c .if2 .taken))
+    let s = c .before .before .before .before in
+    let a = s .before .before .before .before .before .before .args in
+    c .none-added3 .ensures ∙ accept-quiet (a .l) (a .frame .now) (a .arrival) (a .table) (a .ticks) (sym (judged s) ∙ c .before .before .before .if1 .left) _ (opened s .same) (not-true _ (c .before .if2 .taken))
 
 sub-with-legs : tie.Need-sub-with-legs
 sub-with-legs c = omega (arith, accepted _ (opened (c .before .before .before) .none) .frame .sized)
@@ -85,9 +106,13 @@ accept-spec =
     enum-known-answer
     enum-told
     read-refusal-requires
+    read-place-requires
+    none-added-requires
     returns
     call-refusal-requires
+    none-added-requires-2
     returns-2
+    none-added-requires-3
     returns-3
     sub-with-legs
     part-with-legs-start

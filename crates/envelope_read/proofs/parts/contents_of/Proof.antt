@@ -32,7 +32,7 @@ slice-aggregate-result c = search needs
 returns : tie.Need-returns
 returns c =
     let f = c .before .before .before .before .before .args .frame .now in
-    let no : frameRefusal f ≡ 0 → ⊥ = read-refused f _ (sym (c .before .enum-told .given .1) ∙ c .before .before .before .read-frame .ensures .0) .0 in
+    let no : frameRefusal f ≡ 0 → ⊥ = read-refused f _ _ (sym (c .before .enum-told .given .1) ∙ c .before .before .before .read-frame .ensures .0) .0 in
     (sym (contents-refused f no), (refl, rw (contents-at-refused f no, zero-add)))
 
 cast-n : tie.Need-cast-n

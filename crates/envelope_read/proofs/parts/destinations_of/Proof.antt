@@ -31,7 +31,7 @@ returns : tie.Need-returns
 returns c =
     let f = c .before .before .before .before .before .args .frame .now in
     rw (c .no-addresses .ensures)
-    (sym (destinations-refused f (read-refused f _ (sym (c .before .enum-told .given .1) ∙ c .before .before .before .read-frame .ensures .0) .0)))
+    (sym (destinations-refused f (read-refused f _ _ (sym (c .before .enum-told .given .1) ∙ c .before .before .before .read-frame .ensures .0) .0)))
 
 sub-read-addresses : tie.Need-sub-read-addresses
 sub-read-addresses c = omega (arith, accepted _ (opened (c .before) .none) .frame .sized)
