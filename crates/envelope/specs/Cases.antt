@@ -3,7 +3,7 @@ use Prim.Native.Nat.{ℕ}
 use mathlib.Core.Path.{_≡_, refl}
 use mathlib.Core.Bool.{true, false}
 use mathlib.Core.List.{List, [], _∷_, _++_}
-use lib.ListN.{drop, set, take}
+use lib.ListN.{drop, set}
 use Rattle.lists.specs.Places.{anyBelow, firstFrom, firstBelow, sameAt, repeatAt, repeats, elementAt}
 use Rattle.address.specs.Address.{addressOf, stationInRange, inRange, sameStation, sameAddress}
 use Rattle.envelope.specs.declared.Fixed.{Fixed}

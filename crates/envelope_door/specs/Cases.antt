@@ -1,7 +1,6 @@
 -- What C gets of a frame and of an image, by example.
-use Prim.Native.Nat.{ℕ}
 use mathlib.Core.Path.{_≡_, refl}
-use mathlib.Core.List.{List, [], _∷_, _++_}
+use mathlib.Core.List.{[], _∷_, _++_}
 use lib.ListN.{replicate, set}
 use Rattle.lists.specs.Places.{anyBelow, sameAt, repeatAt, repeats, elementAt, joined, upTo}
 use Rattle.lists.specs.Refusals.{unlessRefused}

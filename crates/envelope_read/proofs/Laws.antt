@@ -5,7 +5,6 @@ use mathlib.Core.List.{List}
 use mathlib.Core.Bool.{Bool, true, false}
 use native.Mathlib.Omega.{arith}
 use lib.ListN.{length, getD, take, drop}
-use lib.Dec.{eqb}
 use Rattle.buffer.specs.Bytes.{Bytes}
 use Rattle.lists.specs.Places.{repeats, elementAt, row}
 use Rattle.lists.specs.Refusals.{refuse, unlessRefused}

@@ -1,5 +1,5 @@
 -- The theorems of places: places-near, places-point.
-use Prim.Native.Nat.{ℕ, _+_, _*_, _-_, _<_, _≤_}
+use Prim.Native.Nat.{ℕ, _-_, _<_, _≤_}
 use mathlib.Core.Path.{_≡_, refl, sym, ap, _∙_}
 use mathlib.Core.Bool.{Bool, true, false, not, cond, _||_}
 use mathlib.Core.List.{List, [], _∷_}
@@ -14,14 +14,13 @@ use Rattle.lists.specs.Refusals.{refuse, orElse, among}
 use Rattle.lists.proofs.Given.{Given, tested, either}
 use Rattle.lists.proofs.Bools.{both-ways}
 use Rattle.lists.proofs.Places.{FirstAt, any-found, any-false, first-found, first-most}
-use Rattle.address.specs.declared.Address.{Address}
 use Rattle.address.specs.Address.{inRange, sameAddress}
 use Rattle.address.proofs.Laws.{same-eq, same-refl}
-use Rattle.envelope.specs.Frame.{destinationsOffset, lengthOf, countOf, protOffset, sizeOf, fieldsOf, destinationAt, checkOf}
+use Rattle.envelope.specs.Frame.{destinationsOffset, lengthOf, countOf, sizeOf, fieldsOf, destinationAt, checkOf}
 use Rattle.envelope.specs.Refusal.{mostDestinations, longestContents, lowestPriority, outside, strayAt, outOfRange, wrongVersion, wholeRefusal, valuesRefusalBy, valuesRefusal, frameRefusal}
 use Rattle.envelope.specs.Place.{destinationPlace, firstTwin, strayPlace, placeBeside, framePlace}
 use Rattle.envelope.proofs.Laws.{count-le, length-le}
-use Rattle.envelope_read.specs.Promises.{PlaceNear, PlacesNear, destinationOf, Twin, TwinFound, Points, PlacesPoint}
+use Rattle.envelope_read.specs.Promises.{PlaceNear, PlacesNear, destinationOf, Twin, TwinFound, PlacesPoint}
 
 -- the larger of what a test chooses
 either-le : (t : Bool) {x y m : ℕ} → x ≤ m → y ≤ m → cond t x y ≤ m

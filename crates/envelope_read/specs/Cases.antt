@@ -1,8 +1,7 @@
 -- A frame read, and a refused one: its fields, its contents and its destinations.
-use Prim.Native.Nat.{ℕ}
 use mathlib.Core.Path.{_≡_, refl}
 use mathlib.Core.Bool.{false}
-use mathlib.Core.List.{List, [], _∷_}
+use mathlib.Core.List.{[], _∷_}
 use lib.ListN.{replicate}
 use Rattle.lists.specs.Places.{anyBelow, sameAt, repeatAt, repeats, firsts, row}
 use Rattle.lists.specs.Refusals.{unlessRefused}

@@ -1,5 +1,6 @@
 // The envelope read (3.3, appendix A): the fixed fields of a frame or its refusal, its contents, and its destinations.
 use address::Address;
+use address_bytes::PACKED_SIZE;
 use envelope::DESTINATIONS_OFFSET;
 use envelope::Fixed;
 use frame::fields_of;
@@ -47,7 +48,7 @@ pub struct Destinations {
 fn destination_place(i: u8) -> u16
     ensures { λ r. ⌜ r ≡ destinationPlace i ⌝ }
 {
-    5 + 3 * i as u16
+    (DESTINATIONS_OFFSET + PACKED_SIZE * i as usize) as u16
 }
 
 // The place of 4, 7, 8 or 9 in a frame of so many destinations.

@@ -1,11 +1,11 @@
 -- The rules of a ledger over its places: what two legs alike are, that no two legs of an obedient ledger are, and what makes a ledger obedient.
 use Prim.Native.Nat.{ℕ, _<_, _≤_}
-use mathlib.Core.Path.{_≡_, refl, sym, ap, _∙_}
-use mathlib.Core.Bool.{Bool, true, false, _&&_}
+use mathlib.Core.Path.{_≡_, sym, ap, _∙_}
+use mathlib.Core.Bool.{true, false, _&&_}
 use native.Mathlib.Omega.{arith}
 use native.Mathlib.Decide.{decLt, ℕ-discrete}
 use borrow.Author.Tests.{le-leb, eqb-true, eq-eqb}
-use Rattle.lists.specs.Places.{anyBelow, sameAt, repeatAt, repeats}
+use Rattle.lists.specs.Places.{sameAt, repeatAt, repeats}
 use Rattle.lists.proofs.Bools.{and-left, and-right, and-both, both-same, both-ways}
 use Rattle.lists.proofs.Places.{any-false, any-nowhere}
 use Rattle.address.specs.declared.Seq.{Seq}

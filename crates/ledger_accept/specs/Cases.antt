@@ -1,8 +1,7 @@
 -- Accepts by example: the frame of envelope/specs/Cases.antt, from 9/1/2 to 9/20/5 and 9/21/5 with the number 300.
-use Prim.Native.Nat.{ℕ}
 use mathlib.Core.Path.{_≡_, refl}
-use mathlib.Core.Bool.{true, false}
-use mathlib.Core.List.{List, [], _∷_, _++_}
+use mathlib.Core.Bool.{true}
+use mathlib.Core.List.{List, [], _∷_}
 use lib.ListN.{replicate}
 use Rattle.lists.specs.Places.{anyBelow, firstFrom, firstBelow, sameAt, repeatAt, repeats, elementAt, firsts}
 use Rattle.lists.specs.Refusals.{unlessRefused}

@@ -1,8 +1,5 @@
 -- Answers by example: P11 of document 01, and what each reply leaves.
-use Prim.Native.Nat.{ℕ}
 use mathlib.Core.Path.{_≡_, refl}
-use mathlib.Core.Bool.{true, false}
-use mathlib.Core.List.{List, [], _∷_}
 use Rattle.lists.specs.Places.{anyBelow, firstFrom, firstBelow, sameAt, repeatAt, repeats, elementAt}
 use Rattle.lists.specs.Refusals.{unlessRefused}
 use Rattle.address.specs.Address.{addressOf, stationInRange, inRange, sameStation, sameAddress}

@@ -1,8 +1,6 @@
 -- Clears by example: a settled leg goes and those after it move down; an open one stays.
-use Prim.Native.Nat.{ℕ}
 use mathlib.Core.Path.{_≡_, refl}
-use mathlib.Core.Bool.{true, false}
-use mathlib.Core.List.{List, [], _∷_}
+use mathlib.Core.List.{[], _∷_}
 use Rattle.lists.specs.Lists.{without}
 use Rattle.lists.specs.Places.{anyBelow, sameAt, repeatAt, repeats, elementAt}
 use Rattle.lists.specs.Refusals.{unlessRefused}

@@ -1,8 +1,6 @@
 -- What C gets of a ledger's image, by example: an answer, a tick and a clear on two legs.
-use Prim.Native.Nat.{ℕ}
 use mathlib.Core.Path.{_≡_, refl}
-use mathlib.Core.Bool.{true, false}
-use mathlib.Core.List.{List, [], _∷_}
+use mathlib.Core.List.{_∷_}
 use lib.ListN.{replicate, set}
 use Rattle.lists.specs.Lists.{howMany, without}
 use Rattle.lists.specs.Places.{anyBelow, firstFrom, firstBelow, sameAt, repeatAt, repeats, elementAt, firsts, row, joined}

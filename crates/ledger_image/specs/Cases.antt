@@ -1,9 +1,9 @@
 -- Legs as bytes (include/poztecameh.h), one for each standing, and images that can't be read.
-use Prim.Native.Nat.{ℕ, _-_}
+use Prim.Native.Nat.{ℕ}
 use mathlib.Core.Path.{_≡_, refl}
-use mathlib.Core.Bool.{true, false}
+use mathlib.Core.Bool.{false}
 use mathlib.Core.List.{List, [], _∷_, _++_}
-use lib.ListN.{length, replicate, set, take}
+use lib.ListN.{replicate, set, take}
 use Rattle.lists.specs.Places.{anyBelow, elementAt, firsts, row, joined}
 use Rattle.lists.specs.Refusals.{unlessRefused}
 use Rattle.ledger.specs.declared.Standing.the-variants.{Open, Acknowledged, Refused, Undeliverable, TimedOut, Waiting}

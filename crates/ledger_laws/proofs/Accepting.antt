@@ -1,5 +1,5 @@
 -- When accept gives 61, 62, 63 or takes the message, each exactly; and that a message without <ack_req> passes.
-use Prim.Native.Nat.{ℕ, _+_, _-_, _<_, _≤_}
+use Prim.Native.Nat.{ℕ, _-_, _<_, _≤_}
 use mathlib.Core.Path.{_≡_, refl, sym, ap, _∙_}
 use mathlib.Core.Bool.{Bool, true, false, cond, _&&_}
 use mathlib.Core.List.{List}
@@ -14,17 +14,14 @@ use Rattle.lists.proofs.Bools.{and-left, and-right, and-both}
 use Rattle.lists.proofs.Places.{any-found, any-false, first-found}
 use Rattle.lists.proofs.Refusals.{taken}
 use Rattle.address.specs.declared.Port.{Port}
-use Rattle.address.specs.declared.Seq.{Seq}
-use Rattle.address.specs.declared.Address.{Address}
 use Rattle.address.specs.Address.{sameAddress}
 use Rattle.address.proofs.Laws.{same-eq, same-refl}
 use Rattle.envelope.specs.Frame.{destinationsOffset, fieldsOf, destinationAt}
 use Rattle.table.specs.declared.Table.{Table}
-use Rattle.ledger.specs.declared.Leg.{Leg}
 use Rattle.ledger.specs.declared.Ledger.{Ledger}
 use Rattle.ledger.specs.Rules.{legAt, isOpen}
 use Rattle.ledger.proofs.Laws.{obedient}
-use Rattle.ledger_accept.specs.Accept.{isOpenFrom, isOpenFromAt, legsRefusal, callRefusal, acceptRefusal, withLegs, acceptOf}
+use Rattle.ledger_accept.specs.Accept.{isOpenFrom, isOpenFromAt, legsRefusal, acceptRefusal, withLegs, acceptOf}
 use Rattle.ledger_accept.proofs.Laws.{call-refusal, call-quiet, call-legs}
 use Rattle.ledger_laws.specs.Promises.{Busy, AddsUnless, InOrder, Passes, AcceptRefuses, AcceptPasses}
 

@@ -2,7 +2,7 @@
 use Prim.Native.Nat.{ℕ, zero, suc, _-_, _<_, _≤_}
 use mathlib.Core.Path.{_≡_, refl, sym, ap, _∙_}
 use mathlib.Core.Bool.{Bool, true, false, not, _&&_, cond}
-use mathlib.Core.List.{List, [], _∷_}
+use mathlib.Core.List.{[], _∷_}
 use mathlib.Core.Logic.{_↔_}
 use native.Mathlib.Omega.{arith}
 use native.Mathlib.Decide.{ℕ-discrete}
@@ -35,7 +35,7 @@ use Rattle.ledger_tick.specs.Tick.{timesOut, tickedLeg, tickedLedger, tickRefus
 use Rattle.ledger_clear.specs.Clear.{settledAt, clearRefusal, clearOf}
 use Rattle.ledger_accept.specs.Accept.{callRefusal, acceptRefusal, isUnrouted, legFor, legForAt, acceptOf}
 use Rattle.ledger_laws.specs.Calls.{Call, accepting, answering, ticking, clearing, refusalOf, after}
-use Rattle.ledger_laws.specs.Promises.{Whole, PlacesKept, AsWas, TwoAlike, KeepsRules, RulesAre, RulesKept, brokenRefusal, RulesBroken, Named, Answers, AnswerCloses, Ticks, TickCounts, Clears, ClearRemoves, Settled, ClearRefuses, Adds, AcceptAdds}
+use Rattle.ledger_laws.specs.Promises.{Whole, PlacesKept, AsWas, TwoAlike, KeepsRules, RulesAre, RulesKept, brokenRefusal, RulesBroken, Named, Answers, AnswerCloses, Ticks, TickCounts, ClearRemoves, Settled, ClearRefuses, AcceptAdds}
 use Rattle.ledger.proofs.Alike.{open-for, is-for, Alike, alike-is, is-alike, leg-obeys, apart-at, only-one, obeys-from}
 use Rattle.ledger_laws.proofs.Places.{answer-whole, tick-whole, clear-whole, accept-whole, answer-found, answer-at, answer-other, tick-at, tick-past, clear-before, clear-moved, clear-last, clear-past, accept-call, accept-refusal, accept-before, accept-new, accept-past}
 use Rattle.ledger_laws.proofs.Keeps.{answer-open, answer-keeps, tick-keeps, clear-count, clear-keeps, in-order, accept-count, accept-keeps}

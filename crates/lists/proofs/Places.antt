@@ -12,7 +12,7 @@ use borrow.Author.Tests.{lt-ltb, le-ltb}
 use lib.ListN.{length, getD, set, replicate, length-append, length-replicate, replicate-append-replicate, List·getD-append}
 use lib.Seq.{getD-at, getD-append-add, set-at}
 use Rattle.lists.specs.Places.{anyBelow, firstFrom, firstBelow, sameAt, repeatAt, repeats, elementAt, firsts, row, joined, upTo}
-use Rattle.lists.proofs.Bools.{or-right, or-none, or-neither-of, no-true}
+use Rattle.lists.proofs.Bools.{or-right, or-none, no-true}
 
 -- ---- some place below n
 

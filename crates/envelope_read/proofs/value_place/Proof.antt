@@ -1,5 +1,4 @@
 -- `envelope_read::value_place` meets its contract: by cases on the number.
-use mathlib.Core.Path.{sym, _∙_}
 use borrow.Author.Tests.{ne-eqb}
 use Rattle.envelope_read.specs.Contracts.{valuePlace}
 use borrow.Author.Needs.{needs}

@@ -5,7 +5,7 @@ use mathlib.Core.Bool.{true, false}
 use Rattle.lists.specs.Places.{elementAt}
 use Rattle.ledger.specs.Rules.{legAt, obeys}
 use Rattle.ledger.proofs.Laws.{obedient}
-use Rattle.ledger_answer.specs.Answer.{answeredAt, answeredPlace}
+use Rattle.ledger_answer.specs.Answer.{answeredAt}
 use Rattle.ledger_answer.proofs.Laws.{newest-found, none-found, none-later}
 use native.Mathlib.Omega.{arith}
 use borrow.Author.Needs.{needs}

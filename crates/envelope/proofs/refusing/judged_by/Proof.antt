@@ -1,6 +1,5 @@
 -- `envelope::refusing::judged_by` meets its contract: the tests on the way say which number.
-use mathlib.Core.Path.{_≡_, refl, sym, _∙_}
-use mathlib.Core.Bool.{true, false}
+use mathlib.Core.Path.{refl, sym, _∙_}
 use lib.Dec.{eqb}
 use Rattle.lists.specs.Places.{repeatAt, repeats, elementAt}
 use Rattle.lists.proofs.Places.{first-past, first-below}

@@ -1,7 +1,7 @@
 -- `envelope_read::frame::whole_fault` meets its contract: the tests on the way say which case of `wholeFault` holds.
 use Prim.Native.Nat.{_-_}
 use mathlib.Core.Path.{_≡_, sym, _∙_}
-use lib.ListN.{length, getD, take}
+use lib.ListN.{length}
 use lib.Seq.{length-take-le}
 use Rattle.envelope.specs.Frame.{countOf, lengthOf, sizeOf}
 use Rattle.envelope_read.proofs.Laws.{whole-1, whole-2, whole-3, whole-0}
