@@ -1,6 +1,7 @@
 //! One call on a chart by an ordinary Rust program, made over and over: chart CALL FILE TIMES.
-//! CALL is none, read (a chart's bytes into the 888-byte image of include/poztecameh.h), write (the image's chart as bytes) or
-//! net (a chart's bytes into the ends of its links as node places: what comes before a search). The refusals are document 01's.
+//! CALL is none, read (a chart's bytes into the 937-byte image of include/poztecameh.h), write (the image's chart as bytes),
+//! renew (a chart's bytes in the directed form) or net (a chart's bytes into the ends of its links as node places: what comes
+//! before a search). The refusals are those of documents 01 and 02.
 
 /// A value that the compiler knows nothing of.
 #[inline(never)]
@@ -11,6 +12,10 @@ fn hidden<T>(value: T) -> T {
         copy
     }
 }
+
+const IMAGE: usize = 937;
+const PLAIN: u8 = 2;
+const DIRECTED: u8 = 4;
 
 #[derive(Clone, Copy, PartialEq)]
 struct Station {
@@ -33,12 +38,14 @@ struct Link {
     a: End,
     b: End,
     on: bool,
+    direction: u8,
 }
 
 #[derive(Default)]
 struct Chart {
     nodes: Vec<Node>,
     links: Vec<Link>,
+    form: u8,
     question: Option<(Station, Station)>,
 }
 
@@ -98,11 +105,22 @@ impl Chart {
         Ok(())
     }
 
-    fn add_link(&mut self, link: Link) -> Result<(), u8> {
-        if !link.a.in_range() || !link.b.in_range() {
+    fn add_link(&mut self, form: u8, body: &[u8]) -> Result<(), u8> {
+        let direction = body.get(9).copied().unwrap_or(0);
+        let link = Link { a: end(body), b: end(&body[4..]), on: body[8] == 1, direction };
+        let directions = match form {
+            PLAIN => 0..=0,
+            DIRECTED => 0..=2,
+            _ => return Err(24),
+        };
+        if body[8] > 1
+            || !directions.contains(&direction)
+            || !link.a.in_range()
+            || !link.b.in_range()
+        {
             return Err(24);
         }
-        if self.question.is_some() {
+        if self.question.is_some() || !self.links.is_empty() && self.form != form {
             return Err(25);
         }
         if self.links.len() == 48 {
@@ -118,6 +136,7 @@ impl Chart {
             return Err(30);
         }
         self.links.push(link);
+        self.form = form;
         Ok(())
     }
 
@@ -138,17 +157,16 @@ impl Chart {
     fn add_field(&mut self, tag: u8, body: &[u8]) -> Result<(), u8> {
         match (tag, body.len()) {
             (1, 3..=27) => self.add_node(station(body), &body[3..]),
-            (2, 9) if body[8] > 1 => Err(24),
-            (2, 9) => self.add_link(Link { a: end(body), b: end(&body[4..]), on: body[8] == 1 }),
+            (PLAIN, 9) | (DIRECTED, 10) => self.add_link(tag, body),
             (3, 6) => self.ask(station(body), station(&body[3..])),
-            (1..=3, _) => Err(23),
+            (1..=4, _) => Err(23),
             _ => Err(22),
         }
     }
 
     /// The chart, or the number of the first bad field and its place.
     fn read(bytes: &[u8]) -> Result<Chart, (u8, usize)> {
-        let mut chart = Chart::default();
+        let mut chart = Chart { form: PLAIN, ..Chart::default() };
         let mut at = 0;
         while at < bytes.len() {
             let head = bytes.get(at..at + 3).ok_or((21, at))?;
@@ -164,57 +182,59 @@ impl Chart {
     }
 
     /// The chart that an image holds, or its number.
-    fn of_image(image: &[u8; 888]) -> Result<Chart, u8> {
+    fn of_image(image: &[u8; IMAGE]) -> Result<Chart, u8> {
         if image[0] > 16 || image[1] > 48 {
             return Err(26);
         }
         let mut chart = Chart::default();
-        for node in image[8..456].chunks_exact(28).take(usize::from(image[0])) {
+        for node in image[9..457].chunks_exact(28).take(usize::from(image[0])) {
             let label = node[4..].get(..usize::from(node[3])).ok_or(23)?;
             chart.add_node(station(node), label)?;
         }
-        for link in image[456..].chunks_exact(9).take(usize::from(image[1])) {
-            if link[8] > 1 {
-                return Err(24);
-            }
-            chart.add_link(Link { a: end(link), b: end(&link[4..]), on: link[8] == 1 })?;
+        for link in image[457..].chunks_exact(10).take(usize::from(image[1])) {
+            chart.add_link(image[2], link)?;
         }
-        chart.ask(station(&image[2..]), station(&image[5..]))?;
+        chart.ask(station(&image[3..]), station(&image[6..]))?;
         Ok(chart)
     }
 
-    fn put_image(&self, image: &mut [u8; 888]) {
+    fn put_image(&self, image: &mut [u8; IMAGE]) {
         image.fill(0);
         image[0] = self.nodes.len() as u8;
         image[1] = self.links.len() as u8;
+        image[2] = self.form;
         if let Some((from, to)) = self.question {
-            image[2..5].copy_from_slice(&from.bytes());
-            image[5..8].copy_from_slice(&to.bytes());
+            image[3..6].copy_from_slice(&from.bytes());
+            image[6..9].copy_from_slice(&to.bytes());
         }
-        for (node, part) in self.nodes.iter().zip(image[8..456].chunks_exact_mut(28)) {
+        for (node, part) in self.nodes.iter().zip(image[9..457].chunks_exact_mut(28)) {
             part[..3].copy_from_slice(&node.station.bytes());
             part[3] = node.label.len() as u8;
             part[4..4 + node.label.len()].copy_from_slice(&node.label);
         }
-        for (link, part) in self.links.iter().zip(image[456..].chunks_exact_mut(9)) {
+        for (link, part) in self.links.iter().zip(image[457..].chunks_exact_mut(10)) {
             part[..4].copy_from_slice(&link.a.bytes());
             part[4..8].copy_from_slice(&link.b.bytes());
             part[8] = u8::from(link.on);
+            part[9] = link.direction;
         }
     }
 
-    fn bytes(&self) -> Vec<u8> {
-        let mut bytes = Vec::with_capacity(1065);
+    fn bytes(&self, form: u8) -> Vec<u8> {
+        let mut bytes = Vec::with_capacity(1113);
         for node in &self.nodes {
             bytes.extend([1, 0, 3 + node.label.len() as u8]);
             bytes.extend(node.station.bytes());
             bytes.extend(&node.label);
         }
         for link in &self.links {
-            bytes.extend([2, 0, 9]);
+            bytes.extend([form, 0, if form == DIRECTED { 10 } else { 9 }]);
             bytes.extend(link.a.bytes());
             bytes.extend(link.b.bytes());
             bytes.push(u8::from(link.on));
+            if form == DIRECTED {
+                bytes.push(link.direction);
+            }
         }
         if let Some((from, to)) = self.question {
             bytes.extend([3, 0, 6]);
@@ -235,7 +255,7 @@ impl Chart {
     }
 }
 
-fn read(bytes: &[u8], image: &mut [u8; 888]) -> u8 {
+fn read(bytes: &[u8], image: &mut [u8; IMAGE]) -> u8 {
     match Chart::read(bytes) {
         Ok(chart) => {
             chart.put_image(image);
@@ -245,26 +265,34 @@ fn read(bytes: &[u8], image: &mut [u8; 888]) -> u8 {
     }
 }
 
-fn write(image: &[u8; 888], out: &mut [u8]) -> u8 {
-    match Chart::of_image(image) {
-        Ok(chart) => {
-            let bytes = chart.bytes();
-            match out.get_mut(..bytes.len()) {
-                Some(part) => {
-                    part.copy_from_slice(&bytes);
-                    0
-                }
-                None => 10,
-            }
+fn put(bytes: &[u8], out: &mut [u8]) -> u8 {
+    match out.get_mut(..bytes.len()) {
+        Some(part) => {
+            part.copy_from_slice(bytes);
+            0
         }
+        None => 10,
+    }
+}
+
+fn write(image: &[u8; IMAGE], out: &mut [u8]) -> u8 {
+    match Chart::of_image(image) {
+        Ok(chart) => put(&chart.bytes(chart.form), out),
         Err(number) => number,
+    }
+}
+
+fn renew(bytes: &[u8], out: &mut [u8]) -> u8 {
+    match Chart::read(bytes) {
+        Ok(chart) => put(&chart.bytes(DIRECTED), out),
+        Err((number, _)) => number,
     }
 }
 
 fn main() {
     let words: Vec<String> = std::env::args().collect();
     let bytes = std::fs::read(&words[2]).unwrap();
-    let mut image = [0u8; 888];
+    let mut image = [0u8; IMAGE];
     let mut out = [0u8; 4096];
     assert_eq!(read(&bytes, &mut image), 0);
     assert_eq!(write(&image, &mut out), 0);
@@ -274,6 +302,7 @@ fn main() {
             "none" => {}
             "read" => assert_eq!(read(hidden(&bytes), hidden(&mut image)), 0),
             "write" => assert_eq!(write(hidden(&image), hidden(&mut out)), 0),
+            "renew" => assert_eq!(renew(hidden(&bytes), hidden(&mut out)), 0),
             "net" => {
                 assert!(hidden(Chart::read(hidden(&bytes)).ok().and_then(|chart| chart.net()))
                     .is_some())

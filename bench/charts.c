@@ -1,6 +1,6 @@
 /* One call of the door on a chart, made over and over: charts CALL FILE TIMES.
-   CALL is none, read, write, first, or short (first with a buffer of 14 bytes: all that comes before the search). The chart is read and written
-   once before that. A sum over its image and one over the bytes written are printed, as the ordinary program prints them. */
+   CALL is none, read, write, renew, first, or short (first with a buffer of 14 bytes: all that comes before the search). The chart is read and
+   written once before that. A sum over its image and one over the bytes written are printed, as the ordinary program prints them. */
 #include <stdio.h>
 #include <stdlib.h>
 #include <string.h>
@@ -34,6 +34,8 @@ int main(int count, char **words)
             last = pz_chart_read(chart, n, image, sizeof image, &place);
         else if (strcmp(call, "write") == 0)
             last = pz_chart_write(image, sizeof image, bytes, sizeof bytes, &written);
+        else if (strcmp(call, "renew") == 0)
+            last = pz_chart_renew(chart, n, bytes, sizeof bytes, &written, &place);
         else if (strcmp(call, "first") == 0)
             last = pz_first(chart, n, route, sizeof route, 0) > PZ_ROUTE_SIZE;
         else if (strcmp(call, "short") == 0)

@@ -19,8 +19,8 @@
  * file. Any call may be made on any thread at any time, as long as nobody else writes what it
  * reads, or touches what it writes.
  *
- * Stack. Measured, not proved: pz_sheet needs 22,768 bytes, pz_first and pz_next up to 20,672, the
- * calls on a ledger up to 9,608, all others less than 4,000. tests/stack.c makes each call on a
+ * Stack. Measured, not proved: pz_sheet needs 22,016 bytes, pz_first and pz_next up to 20,128, the
+ * calls on a ledger up to 9,608, all others less than 5,000. tests/stack.c makes each call on a
  * painted stack, over the largest inputs and the deepest searches, and fails where one needs
  * 24,000. Give a thread 65,536 (PZ_STACK_SIZE): twice that, with room for the caller's own.
  *
@@ -38,16 +38,17 @@
  *
  * Refusals of a chart, by its first bad field, and in it the lowest that applies:
  *   21  the field is cut short
- *   22  the tag is not 1, 2 or 3
+ *   22  the tag is not 1, 2, 3 or 4
  *   23  the tag does not allow the length
- *   24  a value is out of its range
- *   25  a node stands after a link, or anything after the question
+ *   24  a value is out of its range; a direction beside a link of tag 2 is
+ *   25  a node stands after a link, a link of tag 2 beside one of tag 4, or anything after the question
  *   26  a 17th node or a 49th link
  *   27  the node is written twice
  *   28  an end or the question names a node that is not written
  *   29  the link joins a node to itself
  *   30  an earlier link uses one of the ends
  *   31  the chart ends without a question
+ *   32  (to the plain form) a link does not go both ways; after all numbers of the chart
  *
  * Refusals of a route, after those of the chart, in this order:
  *   42  the buffer is shorter than 15
@@ -128,26 +129,38 @@ uint8_t pz_tick(uint8_t *ledger, size_t m, uint8_t *ended);
 /* Removes the settled leg at a place; those after it move down one, and the place that is freed is zeroed. 60, 65. */
 uint8_t pz_clear(uint8_t *ledger, size_t m, size_t place);
 
-/* The longest chart: 16 nodes with labels of 24, 48 links and the question. */
-#define PZ_CHART_SIZE 1065
+/* The longest chart: 16 nodes with labels of 24, 48 links of tag 4 and the question. */
+#define PZ_CHART_SIZE 1113
 
-/* The image of a chart: node count 1, link count 1, from 3 (brigade 1, node 2), to 3, then 16 nodes of 28 (brigade 1,
- * node 2, label length 1, label 24) and 48 links of 9 (two ends of 4: brigade 1, node 2, port 1; then on 1), the unused
- * ones zero, as are the bytes past a label. */
-#define PZ_CHART_IMAGE_SIZE 888
+/* The image of a chart: node count 1, link count 1, form 1, from 3 (brigade 1, node 2), to 3, then 16 nodes of 28
+ * (brigade 1, node 2, label length 1, label 24) and 48 links of 10 (two ends of 4: brigade 1, node 2, port 1; then on 1,
+ * direction 1: 0 both ways, 1 first end to second, 2 second to first), the unused ones zero, as are the bytes past a
+ * label. The form is the tag of the links: 2 plain, each both ways, or 4 directed; 2 after reading a chart without links,
+ * and then not looked at when written. */
+#define PZ_CHART_IMAGE_SIZE 937
 
 /* Reads a chart of n bytes and writes its image: 21 to 31 of the chart, *place being where the refused field begins (31:
- * the chart's size), then 10 if the image has fewer than 888 bytes. */
+ * the chart's size), then 10 if the image has fewer than 937 bytes. */
 uint8_t pz_chart_read(const uint8_t *chart, size_t n, uint8_t *image, size_t m, uint16_t *place);
 
 /* Writes the chart of an image into n bytes at chart; *written is its size. Places past the counts and bytes past a
- * label's length are not looked at. 10 if the image has fewer than 888 bytes, then 26 for a count above 16 or 48, then
- * the number that reading would give (a label length above 24 is 23, an on above 1 is 24), then 10 if the chart does
- * not fit. */
+ * label's length are not looked at. 10 if the image has fewer than 937 bytes, then 26 for a count above 16 or 48, then
+ * the number that reading would give (a label length above 24 is 23; an on above 1, a direction above 2 or not 0 in the
+ * plain form, and a form other than 2 or 4 with the first link are 24), then 10 if the chart does not fit. */
 uint8_t pz_chart_write(const uint8_t *image, size_t m, uint8_t *chart, size_t n, uint16_t *written);
 
+/* Writes a chart of n bytes in the directed form into m bytes at out, every plain link as both ways; *written is its
+ * size. One that is in that form is copied. 21 to 31 of the chart, *place being where the refused field begins (31: the
+ * chart's size), then 10 if it does not fit; *place is 0 beside any other number. */
+uint8_t pz_chart_renew(const uint8_t *chart, size_t n, uint8_t *out, size_t m, uint16_t *written, uint16_t *place);
+
+/* Writes a chart in the plain form, likewise: what was renewed comes back to the same bytes. 21 to 31 of the chart, then
+ * 32 if a link does not go both ways, then 10. */
+uint8_t pz_chart_restore(const uint8_t *chart, size_t n, uint8_t *out, size_t m, uint16_t *written, uint16_t *place);
+
 /* The most links that a route has. A route is one link place for each link that it passes, from the question's first
- * station to its second; no station is met twice, and a link that is off is not passed. */
+ * station to its second; no station is met twice, a link that is off is not passed, and any other only in its
+ * direction. */
 #define PZ_ROUTE_SIZE 15
 
 /* Writes the least route of a chart's question into m bytes at route and returns its length; of two routes the one with
@@ -160,7 +173,7 @@ uint8_t pz_first(const uint8_t *chart, size_t n, uint8_t *route, size_t m, size_
 uint8_t pz_next(const uint8_t *chart, size_t n, uint8_t *route, size_t m, size_t length);
 
 /* No printed sheet is longer. */
-#define PZ_SHEET_SIZE 47129
+#define PZ_SHEET_SIZE 47369
 
 /* Writes the printed sheet of n bytes into m bytes at text; *written is its size. For a chart: the counts, the nodes,
  * the links, the question and its routes in order, and `end`, or `more` after 1,000 routes if another follows; for any

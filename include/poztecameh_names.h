@@ -13,9 +13,9 @@
 
 /* The version of the two headers and of the library beside them. The first number changes with a
  * call, a refusal or an image that is there, the second where something is added. */
-#define PZ_VERSION_MAJOR 3
+#define PZ_VERSION_MAJOR 4
 #define PZ_VERSION_MINOR 0
-#define PZ_VERSION "3.0"
+#define PZ_VERSION "4.0"
 
 /* A thread's stack that is enough for any call: more than twice what any needs (poztecameh.h,
  * "Stack"). */
@@ -37,7 +37,7 @@
 #define PZ_BAD_FRAME_VERSION 9
 #define PZ_NO_ROOM 10
 
-/* Of a chart; charts/ has one for each, with the same name. */
+/* Of a chart; charts/ has one for each, with the same name (32: one-way, to be restored). */
 #define PZ_BAD_CHART_CUT 21
 #define PZ_BAD_CHART_TAG 22
 #define PZ_BAD_CHART_LENGTH 23
@@ -49,6 +49,7 @@
 #define PZ_BAD_CHART_LOOP 29
 #define PZ_BAD_CHART_TAKEN 30
 #define PZ_BAD_CHART_UNASKED 31
+#define PZ_BAD_CHART_ONE_WAY 32
 
 /* Of a route. */
 #define PZ_BAD_ROUTE 41
@@ -83,16 +84,19 @@ static inline const char *pz_refusal_text(unsigned number)
     case PZ_BAD_FRAME_VERSION: return "the version is not the one of the message type";
     case PZ_NO_ROOM: return "the lent image or buffer is too short";
     case PZ_BAD_CHART_CUT: return "the field is cut short";
-    case PZ_BAD_CHART_TAG: return "the tag is not 1, 2 or 3";
+    case PZ_BAD_CHART_TAG: return "the tag is not 1, 2, 3 or 4";
     case PZ_BAD_CHART_LENGTH: return "the tag does not allow the length";
     case PZ_BAD_CHART_RANGE: return "a value of the field is out of its range";
-    case PZ_BAD_CHART_AFTER: return "a node stands after a link, or something after the question";
+    case PZ_BAD_CHART_AFTER:
+        return "a node stands after a link, links of tag 2 and of tag 4 are mixed, or something "
+               "stands after the question";
     case PZ_BAD_CHART_CROWD: return "a 17th node or a 49th link";
     case PZ_BAD_CHART_TWICE: return "the node is written twice";
     case PZ_BAD_CHART_STRANGER: return "an end or the question names a node that is not written";
     case PZ_BAD_CHART_LOOP: return "the link joins a node to itself";
     case PZ_BAD_CHART_TAKEN: return "an earlier link uses one of the ends";
     case PZ_BAD_CHART_UNASKED: return "the chart ends without a question";
+    case PZ_BAD_CHART_ONE_WAY: return "a link does not go both ways, as every plain one does";
     case PZ_BAD_ROUTE: return "what was given is no route";
     case PZ_NO_ROUTE_ROOM: return "the route's buffer is shorter than 15 bytes";
     case PZ_NO_ROUTE: return "there is no route, or none later";
@@ -246,10 +250,11 @@ static inline const char *pz_standing_text(unsigned standing)
 
 #define PZ_CHART_NODE_COUNT 0
 #define PZ_CHART_LINK_COUNT 1
-#define PZ_CHART_FROM 2
-#define PZ_CHART_TO 5
-#define PZ_CHART_NODES 8
-#define PZ_CHART_LINKS 456
+#define PZ_CHART_FORM 2
+#define PZ_CHART_FROM 3
+#define PZ_CHART_TO 6
+#define PZ_CHART_NODES 9
+#define PZ_CHART_LINKS 457
 
 #define PZ_NODE_STATION 0
 #define PZ_NODE_LABEL_LENGTH 3
@@ -261,9 +266,31 @@ static inline const char *pz_standing_text(unsigned standing)
 #define PZ_LINK_END 0
 #define PZ_LINK_OTHER_END 4
 #define PZ_LINK_ON 8
-#define PZ_LINK_SIZE 9
+#define PZ_LINK_DIRECTION 9
+#define PZ_LINK_SIZE 10
 
 #define PZ_LINK_AT(place) (PZ_CHART_LINKS + PZ_LINK_SIZE * (size_t)(place))
+
+/* Forms of a chart's links: the tag that each of them has. In the plain form every link goes both
+ * ways. */
+#define PZ_FORM_PLAIN 2
+#define PZ_FORM_DIRECTED 4
+
+/* Directions of a link: both ways, from its first end to its second alone, or back. */
+#define PZ_BOTH_WAYS 0
+#define PZ_OUT_ONLY 1
+#define PZ_BACK_ONLY 2
+
+/* The word of a direction at the end of a sheet's link line. */
+static inline const char *pz_direction_text(unsigned direction)
+{
+    switch (direction) {
+    case PZ_BOTH_WAYS: return "both";
+    case PZ_OUT_ONLY: return "out";
+    case PZ_BACK_ONLY: return "back";
+    default: return "no direction has this number";
+    }
+}
 
 /* ---- The fields of a chart's bytes (docs/CHART.md) */
 
@@ -274,6 +301,7 @@ static inline const char *pz_standing_text(unsigned standing)
 #define PZ_TAG_NODE 1
 #define PZ_TAG_LINK 2
 #define PZ_TAG_QUESTION 3
+#define PZ_TAG_DIRECTED_LINK 4
 
 /* The longest input that has a sheet: any longer one is `too long`. */
 #define PZ_LONGEST_INPUT 4096

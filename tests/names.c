@@ -27,6 +27,8 @@ _Static_assert(PZ_LEG_AT(PZ_MOST_LEGS) == PZ_LEDGER_SIZE, "a ledger's size");
 _Static_assert(PZ_NODE_AT(PZ_MOST_NODES) == PZ_CHART_LINKS, "the nodes' size");
 _Static_assert(PZ_LINK_AT(PZ_MOST_LINKS) == PZ_CHART_IMAGE_SIZE, "a chart image's size");
 _Static_assert(PZ_NODE_LABEL + PZ_MOST_LABEL == PZ_NODE_SIZE, "a node's size");
+_Static_assert(PZ_FORM_PLAIN == PZ_TAG_LINK, "the plain form's tag");
+_Static_assert(PZ_FORM_DIRECTED == PZ_TAG_DIRECTED_LINK, "the directed form's tag");
 _Static_assert(PZ_STATION_SIZE == PZ_ADDRESS_PORT, "a station's size");
 _Static_assert(PZ_HIGHEST_BRIGADE == UINT8_MAX, "every byte is a brigade");
 
@@ -351,6 +353,7 @@ static void put_s(uint8_t *image)
     memset(image, 0, PZ_CHART_IMAGE_SIZE);
     image[PZ_CHART_NODE_COUNT] = NODES;
     image[PZ_CHART_LINK_COUNT] = LINKS;
+    image[PZ_CHART_FORM] = PZ_FORM_PLAIN;
     pz_put_station(image + PZ_CHART_FROM, 9, 1);
     pz_put_station(image + PZ_CHART_TO, 9, 30);
     for (unsigned place = 0; place < NODES; place++) {
@@ -365,6 +368,7 @@ static void put_s(uint8_t *image)
         pz_put_address(link + PZ_LINK_END, a->brigade, a->node, a->port);
         pz_put_address(link + PZ_LINK_OTHER_END, b->brigade, b->node, b->port);
         link[PZ_LINK_ON] = links[place].on;
+        link[PZ_LINK_DIRECTION] = PZ_BOTH_WAYS;
     }
 }
 
@@ -410,18 +414,46 @@ static void test_chart(void)
           PZ_BAD_CHART_LENGTH);
 }
 
+/* S with one link out and one back, and S in the other form and back again. */
+static void test_directions(void)
+{
+    uint8_t chart[PZ_LONGEST_INPUT + 1], plain_chart[PZ_LONGEST_INPUT + 1],
+        written[PZ_CHART_SIZE], image[PZ_CHART_IMAGE_SIZE];
+    uint16_t place, size;
+    put_s(image);
+    image[PZ_CHART_FORM] = PZ_FORM_DIRECTED;
+    image[PZ_LINK_AT(0) + PZ_LINK_DIRECTION] = PZ_OUT_ONLY;
+    image[PZ_LINK_AT(4) + PZ_LINK_DIRECTION] = PZ_BACK_ONLY;
+    size_t n = read_sample("one-way", chart);
+    CHECK(pz_chart_write(image, sizeof image, written, sizeof written, &size) == PZ_DONE);
+    CHECK(size == n && memcmp(written, chart, n) == 0);
+    CHECK(pz_chart_restore(chart, n, written, sizeof written, &size, &place) ==
+          PZ_BAD_CHART_ONE_WAY);
+    CHECK(size == 0 && place == 0);
+    image[PZ_CHART_FORM] = PZ_FORM_PLAIN;
+    CHECK(pz_chart_write(image, sizeof image, written, sizeof written, &size) ==
+          PZ_BAD_CHART_RANGE);
+    size_t m = read_sample("s", plain_chart);
+    n = read_sample("renewed", chart);
+    CHECK(pz_chart_renew(plain_chart, m, written, sizeof written, &size, &place) == PZ_DONE);
+    CHECK(size == n && place == 0 && memcmp(written, chart, n) == 0);
+    CHECK(pz_chart_restore(chart, n, written, sizeof written, &size, &place) == PZ_DONE);
+    CHECK(size == m && place == 0 && memcmp(written, plain_chart, m) == 0);
+    CHECK(pz_chart_renew(plain_chart, m, written, n - 1, &size, &place) == PZ_NO_ROOM);
+}
+
 /* The fields of a chart's bytes, one after the other. */
-static void test_fields(void)
+static void test_fields(const char *name, unsigned link)
 {
     uint8_t chart[PZ_LONGEST_INPUT + 1];
-    size_t n = read_sample("s", chart), at = 0;
-    unsigned tags[PZ_TAG_QUESTION + 1] = {0};
-    while (at + PZ_FIELD_BODY <= n && chart[at + PZ_FIELD_TAG] <= PZ_TAG_QUESTION) {
+    size_t n = read_sample(name, chart), at = 0;
+    unsigned tags[PZ_TAG_DIRECTED_LINK + 1] = {0};
+    while (at + PZ_FIELD_BODY <= n && chart[at + PZ_FIELD_TAG] <= PZ_TAG_DIRECTED_LINK) {
         tags[chart[at + PZ_FIELD_TAG]]++;
         at += (size_t)PZ_FIELD_BODY + pz_word(chart + at + PZ_FIELD_LENGTH);
     }
     CHECK(at == n);
-    CHECK(tags[PZ_TAG_NODE] == NODES && tags[PZ_TAG_LINK] == LINKS && tags[PZ_TAG_QUESTION] == 1);
+    CHECK(tags[PZ_TAG_NODE] == NODES && tags[link] == LINKS && tags[PZ_TAG_QUESTION] == 1);
 }
 
 /* A sample chart for each refusal. */
@@ -436,7 +468,8 @@ static void test_chart_refusals(void)
         {"after", PZ_BAD_CHART_AFTER},     {"crowd", PZ_BAD_CHART_CROWD},
         {"twice", PZ_BAD_CHART_TWICE},     {"loop", PZ_BAD_CHART_LOOP},
         {"taken", PZ_BAD_CHART_TAKEN},     {"stranger", PZ_BAD_CHART_STRANGER},
-        {"unasked", PZ_BAD_CHART_UNASKED},
+        {"unasked", PZ_BAD_CHART_UNASKED}, {"direction", PZ_BAD_CHART_RANGE},
+        {"mixed", PZ_BAD_CHART_AFTER},
     };
     uint8_t chart[PZ_LONGEST_INPUT + 1], image[PZ_CHART_IMAGE_SIZE];
     uint16_t place;
@@ -479,7 +512,7 @@ static void test_sheets(void)
 static void test_words(void)
 {
     static const uint8_t ranges[][2] = {{PZ_DONE, PZ_NO_ROOM},
-                                        {PZ_BAD_CHART_CUT, PZ_BAD_CHART_UNASKED},
+                                        {PZ_BAD_CHART_CUT, PZ_BAD_CHART_ONE_WAY},
                                         {PZ_BAD_ROUTE, PZ_NO_ROUTE},
                                         {PZ_BAD_TABLE, PZ_NO_ENTRY},
                                         {PZ_BAD_LEDGER, PZ_NO_SETTLED_LEG}};
@@ -498,6 +531,26 @@ static void test_words(void)
         for (unsigned other = 0; other < number && number <= PZ_WAITING; other++)
             CHECK(strcmp(pz_standing_text(number), pz_standing_text(other)) != 0);
     }
+    none = pz_direction_text(UINT8_MAX);
+    for (unsigned number = 0; number <= UINT8_MAX; number++)
+        CHECK((strcmp(pz_direction_text(number), none) != 0) == (number <= PZ_BACK_ONLY));
+}
+
+/* The words of directions are those at the end of a sheet's link lines. */
+static void test_direction_words(void)
+{
+    uint8_t chart[PZ_LONGEST_INPUT + 1], text[PZ_SHEET_SIZE];
+    char line[64];
+    uint32_t written;
+    size_t n = read_sample("one-way", chart);
+    CHECK(pz_sheet(chart, n, text, sizeof text - 1, &written) == PZ_DONE);
+    text[written] = '\0';
+    snprintf(line, sizeof line, "\n0 9/1/2 9/20/1 on %s\n", pz_direction_text(PZ_OUT_ONLY));
+    CHECK(strstr((const char *)text, line) != NULL);
+    snprintf(line, sizeof line, "\n1 9/1/3 9/21/1 on %s\n", pz_direction_text(PZ_BOTH_WAYS));
+    CHECK(strstr((const char *)text, line) != NULL);
+    snprintf(line, sizeof line, "\n4 9/20/3 9/21/3 on %s\n", pz_direction_text(PZ_BACK_ONLY));
+    CHECK(strstr((const char *)text, line) != NULL);
 }
 
 static void test_version(void)
@@ -518,11 +571,14 @@ int main(void)
     test_waiting();
     test_accepting();
     test_chart();
-    test_fields();
+    test_directions();
+    test_fields("s", PZ_TAG_LINK);
+    test_fields("renewed", PZ_TAG_DIRECTED_LINK);
     test_chart_refusals();
     test_routes();
     test_sheets();
     test_words();
+    test_direction_words();
     test_version();
     printf("names: %u checks, %u failed\n", checks, failures);
     return failures > 0;

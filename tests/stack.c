@@ -19,9 +19,9 @@ enum { STATED = 24000, MARGIN = 2 };
 
 static uint8_t frame[PZ_FRAME_SIZE], envelope[PZ_ENVELOPE_SIZE], contents[PZ_MOST_CONTENTS];
 static uint8_t table[PZ_TABLE_SIZE], ledger[PZ_LEDGER_SIZE];
-static uint8_t chart[PZ_CHART_SIZE], chart_image[PZ_CHART_IMAGE_SIZE], route[PZ_ROUTE_SIZE],
-    text[PZ_SHEET_SIZE];
-static uint16_t chart_size, word;
+static uint8_t chart[PZ_CHART_SIZE], moved[PZ_CHART_SIZE], chart_image[PZ_CHART_IMAGE_SIZE],
+    route[PZ_ROUTE_SIZE], text[PZ_SHEET_SIZE];
+static uint16_t chart_size, moved_size, word;
 static uint32_t sheet_size;
 static uint8_t byte, other, answer;
 
@@ -88,6 +88,7 @@ static void begin_chart(void)
 {
     memset(chart_image, 0, sizeof chart_image);
     chart_image[PZ_CHART_NODE_COUNT] = PZ_MOST_NODES;
+    chart_image[PZ_CHART_FORM] = PZ_FORM_PLAIN;
     for (uint8_t place = 0; place < PZ_MOST_NODES; place++) {
         uint8_t *node = chart_image + PZ_NODE_AT(place);
         pz_put_station(node + PZ_NODE_STATION, 9, place);
@@ -173,6 +174,16 @@ static void call_chart_read(void)
     answer = pz_chart_read(chart, chart_size, chart_image, sizeof chart_image, &word);
 }
 
+static void call_renew(void)
+{
+    answer = pz_chart_renew(chart, chart_size, moved, sizeof moved, &moved_size, &word);
+}
+
+static void call_restore(void)
+{
+    answer = pz_chart_restore(moved, moved_size, chart, sizeof chart, &chart_size, &word);
+}
+
 static void call_first(void) { answer = pz_first(chart, chart_size, route, sizeof route, 0); }
 
 static void before_next(void)
@@ -205,6 +216,8 @@ static const struct {
     {"pz_clear", nothing, call_clear, PZ_DONE},
     {"pz_chart_write", draw_no_route, call_chart_write, PZ_DONE},
     {"pz_chart_read", nothing, call_chart_read, PZ_DONE},
+    {"pz_chart_renew", nothing, call_renew, PZ_DONE},
+    {"pz_chart_restore", nothing, call_restore, PZ_DONE},
     {"pz_first", draw_no_route, call_first, PZ_NO_ROUTE},
     {"pz_next", before_next, call_next, PZ_NO_ROUTE},
     {"pz_sheet, no route", draw_no_route, call_sheet, PZ_DONE},

@@ -1,5 +1,6 @@
 /* Writes the bytes of a chart that is typed as text on standard input, in the lines of the printed
- * sheet (docs/CHART.md, "As text"). A bad line is shown with its number and what is wrong, and
+ * sheet (docs/CHART.md, "As text"): in the plain form where every link goes both ways, else in the
+ * directed one. A bad line is shown with its number and what is wrong, and
  * nothing is written. Exit status: 0 written, 1 the text is no chart, 2 it can't be read or the
  * bytes can't be written. */
 #include <errno.h>
@@ -203,6 +204,18 @@ static void take_node(unsigned place, const uint8_t *station)
     image[PZ_CHART_NODE_COUNT]++;
 }
 
+/* A word for the direction may stand here; without one it is both ways. */
+static uint8_t take_direction(void)
+{
+    for (uint8_t direction = PZ_BOTH_WAYS; direction <= PZ_BACK_ONLY; direction++)
+        if (take(pz_direction_text(direction))) {
+            if (direction != PZ_BOTH_WAYS)
+                image[PZ_CHART_FORM] = PZ_FORM_DIRECTED;
+            return direction;
+        }
+    return PZ_BOTH_WAYS;
+}
+
 static void take_link(unsigned place, const uint8_t *station)
 {
     uint8_t count = image[PZ_CHART_LINK_COUNT];
@@ -216,6 +229,7 @@ static void take_link(unsigned place, const uint8_t *station)
     link[PZ_LINK_ON] = take("on");
     if (link[PZ_LINK_ON] == 0 && !take("off"))
         bad("on or off is wanted here");
+    link[PZ_LINK_DIRECTION] = take_direction();
     want_end();
     test_place(place, count, "link");
     image[PZ_CHART_LINK_COUNT]++;
@@ -309,7 +323,7 @@ static void take_line(void)
     else if (take("refused") || take("too"))
         no_chart();
     else
-        bad("a line is like 0 9/1 Control or 0 9/1/2 9/20/1 on or from 9/1 to 9/30");
+        bad("a line is like 0 9/1 Control or 0 9/1/2 9/20/1 on both or from 9/1 to 9/30");
 }
 
 static void test_whole(void)
@@ -341,6 +355,7 @@ int main(void)
 {
     uint8_t bytes[PZ_CHART_SIZE];
     uint16_t written;
+    image[PZ_CHART_FORM] = PZ_FORM_PLAIN;
     while (next_line())
         take_line();
     if (ferror(stdin))

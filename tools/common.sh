@@ -78,8 +78,8 @@ need_rt() {
         stop 'rt, the Rattle kit, is not on the PATH: README.md, "What it needs", says more'
 }
 
-# run_program NAME: ends as the program of this name of target/programs/, over standard input. What
-# it stands on is built first, where something has changed.
+# run_program NAME WORDS..: ends as the program of this name of target/programs/, over standard input
+# and with these words. What it stands on is built first, where something has changed.
 run_program() {
     "$root/tools/build" --quiet </dev/null >&2 || exit 2
     if [ ${#emulate[@]} -gt 0 ] && ! command -v "${emulate[0]}" >/dev/null; then
@@ -87,7 +87,7 @@ run_program() {
     fi
     # A closed pipe is then a write that fails, and not the program's end.
     trap '' PIPE
-    exec "${emulate[@]}" "$root/target/programs/$1"
+    exec "${emulate[@]}" "$root/target/programs/$1" "${@:2}"
 }
 
 # For each check the prover writes what stands below the crate into files of its own: in memory,

@@ -1,8 +1,8 @@
 //! pz_chart_read and pz_chart_write, each beside the second reader and writer, and back again
-//! through the other.
+//! through the other; and so pz_chart_renew and pz_chart_restore.
 
-use crate::chart::Refusal;
-use crate::door::{self, hex, Expected, Given};
+use crate::chart::{Refusal, LINK};
+use crate::door::{self, hex, Answer, Expected, Given};
 use crate::group::{Group, Outcome, Stop};
 use crate::{chart, chart_image};
 
@@ -62,6 +62,9 @@ pub fn try_write(group: &mut Group, name: &str, image: &[u8], room: usize) -> Re
     if let (true, Ok(Given { bytes: chart, .. })) = (held, expected) {
         let mut tidy = image.to_vec();
         chart_image::unlooked(image).into_iter().for_each(|place| tidy[place] = 0);
+        if image[chart_image::LINK_COUNT] == 0 {
+            tidy[chart_image::FORM] = LINK;
+        }
         tidy.truncate(chart_image::SIZE);
         let back = door::chart_read(&chart, chart_image::SIZE);
         group.compare(&back, &Ok(read_to(tidy)), || {
@@ -69,6 +72,49 @@ pub fn try_write(group: &mut Group, name: &str, image: &[u8], room: usize) -> Re
         })?;
     }
     Ok(came.number)
+}
+
+fn call_move(form: u8, chart: &[u8], room: usize) -> Answer {
+    match form {
+        LINK => door::chart_restore(chart, room),
+        _ => door::chart_renew(chart, room),
+    }
+}
+
+// What a chart that is moved gives: beside a refusal of the chart its place is real.
+fn moved_to(moved: Result<Vec<u8>, Refusal>) -> Expected {
+    match moved {
+        Ok(chart) => {
+            let size = chart.len();
+            Ok(Given::new(chart, &[size, 0]))
+        }
+        Err((number, place)) => Ok(Given { number, bytes: Vec::new(), beside: vec![0, place] }),
+    }
+}
+
+/// Moves a chart to the form of this tag, in a buffer of this size; one that was moved is moved
+/// back to the same bytes.
+pub fn try_move(
+    group: &mut Group,
+    name: &str,
+    form: u8,
+    chart: &[u8],
+    room: usize,
+) -> Result<Refusal, Stop> {
+    let came = call_move(form, chart, room);
+    let moved = chart::move_to(form, chart, room);
+    let refusal = moved.as_ref().err().copied().unwrap_or((0, 0));
+    let held = group.compare(&came, &moved_to(moved.clone()), || {
+        format!("{name}: to the form {form}, buffer of {room}, chart {}", hex(chart))
+    })?;
+    if let (true, Ok(moved), Ok(fields)) = (held, moved, chart::read(chart)) {
+        let old = chart::form(&fields);
+        let back = call_move(old, &moved, chart.len());
+        group.compare(&back, &moved_to(Ok(chart.to_vec())), || {
+            format!("{name}: back to the form {old}, chart {}", hex(chart))
+        })?;
+    }
+    Ok(refusal)
 }
 
 /// Reads a chart whose refusal is known beforehand.

@@ -1,10 +1,12 @@
 //! Charts with a refusal that is known beforehand: worked by hand, both sides of every limit, cut
 //! and lengthened, in the order of the refusals, and with every value of every byte.
 
-use crate::chart::{LINK, LONGEST, MOST_LABEL, MOST_LINKS, MOST_NODES, NODE, QUESTION};
+use crate::chart::{DIRECTED_LINK, LINK, NODE, QUESTION};
+use crate::chart::{LONGEST, MOST_LABEL, MOST_LINKS, MOST_NODES};
 use crate::chart_call::{known, known_read, try_read, try_write};
 use crate::chart_draft::{lay_pieces, Draft, DraftLink, DraftNode, Piece};
-use crate::chart_image::{self, LABEL, LABEL_LENGTH, LINK_COUNT, NODE_COUNT, ON};
+use crate::chart_image::SIZE;
+use crate::chart_image::{self, DIRECTION, FORM, LABEL, LABEL_LENGTH, LINK_COUNT, NODE_COUNT, ON};
 use crate::door::{self, Given};
 use crate::draw::Draw;
 use crate::group::{Group, Outcome, Tests};
@@ -14,6 +16,7 @@ use crate::wire::Address;
 pub const GROUPS: &[Tests] = &[
     ("chart by hand", by_hand),
     ("chart limits", limits),
+    ("chart forms", forms),
     ("chart fields", fields),
     ("chart lengths", lengths),
     ("chart order", order),
@@ -42,27 +45,46 @@ pub const S: [u8; 124] = [
 ];
 
 // The start of its image, then the links' part, worked by hand.
-const S_HEAD: [u8; 8] = [4, 6, 9, 0, 1, 9, 0, 30];
+const S_HEAD: [u8; 9] = [4, 6, 2, 9, 0, 1, 9, 0, 30];
 const S_NODES: [&[u8]; 4] = [
     &[9, 0, 1, 7, b'C', b'o', b'n', b't', b'r', b'o', b'l'],
     &[9, 0, 20, 4, b'H', b'i', b'l', b'l'],
     &[9, 0, 21, 4, b'H', b'i', b'l', b'l'],
     &[9, 0, 30, 4, b'Q', b'u', b'a', b'y'],
 ];
-const S_LINKS: [u8; 54] = [
-    9, 0, 1, 2, 9, 0, 20, 1, 1, 9, 0, 1, 3, 9, 0, 21, 1, 1, 9, 0, 20, 2, 9, 0, 30, 1, 1, //
-    9, 0, 21, 2, 9, 0, 30, 2, 1, 9, 0, 20, 3, 9, 0, 21, 3, 1, 9, 0, 1, 4, 9, 0, 30, 3, 0,
+const S_LINKS: [u8; 60] = [
+    9, 0, 1, 2, 9, 0, 20, 1, 1, 0, 9, 0, 1, 3, 9, 0, 21, 1, 1, 0, //
+    9, 0, 20, 2, 9, 0, 30, 1, 1, 0, 9, 0, 21, 2, 9, 0, 30, 2, 1, 0, //
+    9, 0, 20, 3, 9, 0, 21, 3, 1, 0, 9, 0, 1, 4, 9, 0, 30, 3, 0, 0,
 ];
 
-fn by_hand(group: &mut Group, _: &mut Draw) -> Outcome {
-    let mut image = vec![0; 888];
-    image[..8].copy_from_slice(&S_HEAD);
-    for (place, node) in S_NODES.iter().enumerate() {
-        image[8 + 28 * place..][..node.len()].copy_from_slice(node);
-    }
-    image[456..][..S_LINKS.len()].copy_from_slice(&S_LINKS);
+/// S in the directed form with three directions, worked by hand.
+pub const ONE_WAY: [u8; 130] = [
+    1, 0, 10, 9, 0, 1, b'C', b'o', b'n', b't', b'r', b'o', b'l', //
+    1, 0, 7, 9, 0, 20, b'H', b'i', b'l', b'l', //
+    1, 0, 7, 9, 0, 21, b'H', b'i', b'l', b'l', //
+    1, 0, 7, 9, 0, 30, b'Q', b'u', b'a', b'y', //
+    4, 0, 10, 9, 0, 1, 2, 9, 0, 20, 1, 1, 1, //
+    4, 0, 10, 9, 0, 1, 3, 9, 0, 21, 1, 1, 0, //
+    4, 0, 10, 9, 0, 20, 2, 9, 0, 30, 1, 1, 0, //
+    4, 0, 10, 9, 0, 21, 2, 9, 0, 30, 2, 1, 0, //
+    4, 0, 10, 9, 0, 20, 3, 9, 0, 21, 3, 1, 2, //
+    4, 0, 10, 9, 0, 1, 4, 9, 0, 30, 3, 0, 0, //
+    3, 0, 6, 9, 0, 1, 9, 0, 30,
+];
 
-    let read = door::chart_read(&S, 888);
+/// Its directions.
+pub const DIRECTIONS: [usize; 6] = [1, 0, 0, 0, 2, 0];
+
+fn by_hand(group: &mut Group, _: &mut Draw) -> Outcome {
+    let mut image = vec![0; 937];
+    image[..9].copy_from_slice(&S_HEAD);
+    for (place, node) in S_NODES.iter().enumerate() {
+        image[9 + 28 * place..][..node.len()].copy_from_slice(node);
+    }
+    image[457..][..S_LINKS.len()].copy_from_slice(&S_LINKS);
+
+    let read = door::chart_read(&S, 937);
     let expected = Ok(Given::new(image.clone(), &[0]));
     group.compare(&read, &expected, || "pz_chart_read of S".to_string())?;
     let written = door::chart_write(&image, 124);
@@ -70,6 +92,19 @@ fn by_hand(group: &mut Group, _: &mut Draw) -> Outcome {
     group.compare(&written, &expected, || "pz_chart_write of S".to_string())?;
     group.check(Draft::s().lay() == S, || "S is not laid as by hand".to_string())?;
     group.check(Draft::s().image() == image, || "S has not the image by hand".to_string())?;
+
+    image[2] = 4;
+    image[466] = 1;
+    image[506] = 2;
+    let read = door::chart_read(&ONE_WAY, 937);
+    let expected = Ok(Given::new(image.clone(), &[0]));
+    group.compare(&read, &expected, || "pz_chart_read of S, one way".to_string())?;
+    let written = door::chart_write(&image, 130);
+    let expected = Ok(Given::new(ONE_WAY.to_vec(), &[130]));
+    group.compare(&written, &expected, || "pz_chart_write of S, one way".to_string())?;
+    let one_way = Draft::s().direct(&DIRECTIONS);
+    group.check(one_way.lay() == ONE_WAY, || "S, one way, is not laid as by hand".to_string())?;
+    group.check(one_way.image() == image, || "S, one way: not the image by hand".to_string())?;
     known_read(group, "P13", (31, 0), &[])?;
     known_read(group, "P14", (24, 0), &[1, 0, 3, 9, 4, 0])
 }
@@ -95,8 +130,14 @@ fn hold_links(d: &mut Draft, count: usize) {
     (0..count).for_each(|_| d.join(0, 1));
 }
 
-// The fields of S begin at 0, 13, 23 and 33, at 43 and each twelfth after it, and at 115.
-const LIMITS: [(&str, u8, usize, Change); 95] = [
+// Gives the chart the directed form, and its links directions.
+fn direct(d: &mut Draft, directions: &[usize]) {
+    *d = d.clone().direct(directions);
+}
+
+// The fields of S begin at 0, 13, 23 and 33, at 43 and each twelfth after it, and at 115; directed
+// links at 43 and each thirteenth after it, and the question at 121.
+const LIMITS: [(&str, u8, usize, Change); 109] = [
     ("as it is", 0, 0, |_| ()),
     ("a label of 0", 0, 0, |d| d.nodes[1].label.clear()),
     ("every label of 0", 0, 0, |d| d.nodes.iter_mut().for_each(|node| node.label.clear())),
@@ -150,6 +191,41 @@ const LIMITS: [(&str, u8, usize, Change); 95] = [
     ("on 128", 24, 43, |d| d.links[0].on = 128),
     ("on 255", 24, 43, |d| d.links[0].on = 255),
     ("the last link's on 2", 24, 103, |d| d.links[5].on = 2),
+    ("directed, all both ways", 0, 0, |d| direct(d, &[])),
+    ("directed, each direction", 0, 0, |d| direct(d, &[0, 1, 2, 2, 1, 0])),
+    ("direction 3", 24, 43, |d| direct(d, &[3])),
+    ("direction 128", 24, 43, |d| direct(d, &[128])),
+    ("direction 255", 24, 43, |d| direct(d, &[255])),
+    ("an off link's direction 2", 0, 0, |d| direct(d, &[0, 0, 0, 0, 0, 2])),
+    ("an off link's direction 3", 24, 108, |d| direct(d, &[0, 0, 0, 0, 0, 3])),
+    ("a directed link's on 2", 24, 56, |d| {
+        direct(d, &[]);
+        d.links[1].on = 2;
+    }),
+    ("a directed link's port 64", 24, 56, |d| {
+        direct(d, &[]);
+        d.links[1].ends[1].port = 64;
+    }),
+    ("48 directed links", 0, 0, |d| {
+        hold_links(d, 48);
+        direct(d, &[2; 48]);
+    }),
+    ("49 directed links", 26, 636, |d| {
+        hold_links(d, 49);
+        direct(d, &[1; 49]);
+    }),
+    ("no links, directed", 0, 0, |d| {
+        d.links.clear();
+        direct(d, &[]);
+    }),
+    ("one link out, and one back at the same ends", 30, 121, |d| {
+        direct(d, &[1]);
+        d.links.push(DraftLink { direction: 2, ..d.links[0] });
+    }),
+    ("a directed link from a node to itself", 29, 43, |d| {
+        direct(d, &[1]);
+        d.links[0].ends[1].node = 1;
+    }),
     ("asked from node 1024", 24, 115, |d| d.from.1 = 1024),
     ("asked from node 1025, 1 in ten bits", 24, 115, |d| d.from.1 = 1025),
     ("asked to node 1024", 24, 115, |d| d.to.1 = 1024),
@@ -197,7 +273,7 @@ const LIMITS: [(&str, u8, usize, Change); 95] = [
     ("a link twice", 30, 115, |d| d.links.push(d.links[0])),
     ("a link twice, the other way", 30, 115, |d| {
         let [one, other] = d.links[0].ends;
-        d.links.push(DraftLink { ends: [other, one], on: 1 });
+        d.links.push(DraftLink { ends: [other, one], on: 1, direction: 0 });
     }),
     ("48th link's end used by the first", 30, 576, |d| {
         hold_links(d, 48);
@@ -224,12 +300,93 @@ fn limits(group: &mut Group, draw: &mut Draw) -> Outcome {
     Ok(())
 }
 
+// ---- forms that only an image can have ----
+
+// Gives the image of S with a form, and a direction for the first and the last link.
+fn formed(form: u8, first: u8, last: u8) -> Vec<u8> {
+    let mut image = Draft::s().image();
+    image[FORM] = form;
+    image[chart_image::link(0)][DIRECTION] = first;
+    image[chart_image::link(5)][DIRECTION] = last;
+    image
+}
+
+fn forms(group: &mut Group, _: &mut Draw) -> Outcome {
+    for form in 0..=u8::MAX {
+        for direction in 0..=u8::MAX {
+            for (first, last) in [(direction, 0), (0, direction)] {
+                let number = match (form, direction) {
+                    (LINK, 0) | (DIRECTED_LINK, 0..=2) => 0,
+                    _ => 24,
+                };
+                let came = try_write(group, "a form", &formed(form, first, last), LONGEST)?;
+                group.known("a form", number, came)?;
+            }
+        }
+        // Without links the form is not looked at.
+        let mut image = Draft::row(2).image();
+        image[FORM] = form;
+        let came = try_write(group, "a form without links", &image, LONGEST)?;
+        group.known("a form without links", 0, came)?;
+        // The nodes come before it, and after it what is wrong in the first link.
+        let mut image = formed(form, 0, 0);
+        image[chart_image::link(0)][6] = 99;
+        let came = try_write(group, "a form and a stranger", &image, LONGEST)?;
+        let is_form = form == LINK || form == DIRECTED_LINK;
+        group.known("a form and a stranger", if is_form { 28 } else { 24 }, came)?;
+        image[chart_image::node(3)][2] = 1;
+        let came = try_write(group, "a form and a node twice", &image, LONGEST)?;
+        group.known("a form and a node twice", 27, came)?;
+    }
+    Ok(())
+}
+
 // ---- fields out of their order, and of a wrong shape ----
 
 type Rearrange = fn(&mut Vec<Piece>);
 
+/// Gives a plain link the other tag, and the direction both; no other field changes.
+pub fn to_directed(piece: &mut Piece) {
+    if piece.tag == LINK {
+        *piece = Piece::new(DIRECTED_LINK, [&piece.body[..], &[0]].concat());
+    }
+}
+
+fn to_plain(piece: &mut Piece) {
+    if piece.tag == DIRECTED_LINK {
+        *piece = Piece::new(LINK, piece.body[..9].to_vec());
+    }
+}
+
 // Four nodes, six links and the question stand at 0 to 3, 4 to 9 and 10.
-const FIELDS: [(&str, u8, usize, Rearrange); 40] = [
+const FIELDS: [(&str, u8, usize, Rearrange); 53] = [
+    ("all links directed", 0, 0, |p| p.iter_mut().for_each(to_directed)),
+    ("the first link directed", 25, 56, |p| to_directed(&mut p[4])),
+    ("the last link directed", 25, 103, |p| to_directed(&mut p[9])),
+    ("the last link plain", 25, 108, |p| p[4..9].iter_mut().for_each(to_directed)),
+    ("mixed, and a direction above 2", 24, 103, |p| {
+        to_directed(&mut p[9]);
+        p[9].body[9] = 3;
+    }),
+    ("mixed, and at no node", 25, 103, |p| {
+        to_directed(&mut p[9]);
+        p[9].body[6] = 99;
+    }),
+    ("a node after a directed link", 25, 46, |p| {
+        p.iter_mut().for_each(to_directed);
+        p.swap(3, 4);
+    }),
+    ("a directed link after the question", 25, 124, |p| {
+        p.push(p[4].clone());
+        to_directed(&mut p[11]);
+    }),
+    ("an empty directed link", 23, 43, |p| p[4] = Piece::new(DIRECTED_LINK, vec![])),
+    ("a directed link of 9", 23, 43, |p| p[4].tag = DIRECTED_LINK),
+    ("a directed link of 11", 23, 43, |p| {
+        p[4] = Piece::new(DIRECTED_LINK, [&p[4].body[..], &[0, 0]].concat())
+    }),
+    ("a node's body under tag 4", 23, 13, |p| p[1].tag = DIRECTED_LINK),
+    ("the question's body under tag 4", 23, 115, |p| p[10].tag = DIRECTED_LINK),
     ("no field", 31, 0, |p| p.clear()),
     ("no question", 31, 115, |p| p.truncate(10)),
     ("nodes alone", 31, 43, |p| p.truncate(4)),
@@ -252,12 +409,12 @@ const FIELDS: [(&str, u8, usize, Rearrange); 40] = [
         p.push(Piece::new(NODE, vec![7, 4, 0]))
     }),
     ("a wrong length after the question", 23, 124, |p| p.push(Piece::new(LINK, vec![0; 8]))),
-    ("a wrong tag after the question", 22, 124, |p| p.push(Piece::new(4, vec![]))),
+    ("a wrong tag after the question", 22, 124, |p| p.push(Piece::new(5, vec![]))),
     ("tag 0", 22, 0, |p| p[0].tag = 0),
-    ("tag 4", 22, 13, |p| p[1].tag = 4),
+    ("tag 5", 22, 13, |p| p[1].tag = 5),
     ("tag 255", 22, 43, |p| p[4].tag = 255),
     ("tag 129, 1 in seven bits", 22, 0, |p| p[0].tag = 129),
-    ("the question's tag 4", 22, 115, |p| p[10].tag = 4),
+    ("the question's tag 5", 22, 115, |p| p[10].tag = 5),
     ("an empty node", 23, 0, |p| p[0] = Piece::new(NODE, vec![])),
     ("a node of 2", 23, 0, |p| p[0] = Piece::new(NODE, vec![9, 0])),
     ("a node of 3", 0, 0, |p| p[0] = Piece::new(NODE, vec![9, 0, 1])),
@@ -293,7 +450,7 @@ fn fields(group: &mut Group, _: &mut Draw) -> Outcome {
         known_read(group, name, (number, place), &lay_pieces(&pieces))?;
     }
     // What is too short for a field's head, whatever it would be.
-    for tag in [0, 1, 2, 3, 4, 255] {
+    for tag in [0, 1, 2, 3, 4, 5, 255] {
         for start in [&[tag][..], &[tag, 0], &[tag, 255]] {
             known_read(group, "a head cut short", (21, 0), start)?;
             let chart = [&S[..], start].concat();
@@ -305,7 +462,7 @@ fn fields(group: &mut Group, _: &mut Draw) -> Outcome {
 
 // ---- lengths ----
 
-/// The longest chart: 16 nodes with labels of 24, 48 links. One link of each three between
+/// The longest plain chart: 16 nodes with labels of 24, 48 links. One link of each three between
 /// neighbours is on, a second one between the middle ones, and one of three from first to last.
 pub fn largest() -> Draft {
     let mut draft = Draft::row(MOST_NODES);
@@ -322,13 +479,15 @@ pub fn largest() -> Draft {
 }
 
 fn lengths(group: &mut Group, _: &mut Draw) -> Outcome {
-    let largest = largest().lay();
-    group.check(largest.len() == LONGEST, || format!("the longest has {}", largest.len()))?;
-    for chart in [Draft::row(1).lay(), Draft::row(16).lay(), S.to_vec(), largest] {
+    let [plain, directed] = [largest().lay(), largest().directed().lay()];
+    let sizes = [plain.len(), directed.len()];
+    group.check(sizes == [1065, LONGEST], || format!("the longest have {sizes:?}"))?;
+    let small = [Draft::row(1).lay(), Draft::row(16).lay(), S.to_vec(), ONE_WAY.to_vec()];
+    for chart in small.into_iter().chain([plain, directed]) {
         let size = chart.len();
         let mut image = vec![0; chart_image::SIZE];
         image.copy_from_slice(door::chart_read(&chart, chart_image::SIZE).bytes());
-        for (number, lent) in [(10, 0), (10, 8), (10, 887), (0, 888), (0, 889), (0, LONG)] {
+        for (number, lent) in [(10, 0), (10, 9), (10, 936), (0, 937), (0, 938), (0, LONG)] {
             let name = format!("an image of {lent} for a chart of {size}");
             let came = try_read(group, &name, &chart, lent)?;
             known(group, &name, (number, 0), came)?;
@@ -407,10 +566,10 @@ const NODE_BREACHES: [Breach<Attempt>; 8] = [
     (25, |a| a.before.push(question())),
     (24, |a| a.last.body[1] = 4),
     (23, |a| lengthen(&mut a.last, 28)),
-    (22, |a| a.last.tag = 4),
+    (22, |a| a.last.tag = 5),
     (21, |a| a.is_cut = true),
 ];
-const LINK_BREACHES: [Breach<Attempt>; 10] = [
+const LINK_BREACHES: [Breach<Attempt>; 11] = [
     (30, |a| a.last.body[3] = 1),
     (29, |a| a.last.body[6] = 100),
     (28, |a| a.last.body[6] = 99),
@@ -422,10 +581,30 @@ const LINK_BREACHES: [Breach<Attempt>; 10] = [
         a.before = draft.pieces();
         a.before.pop();
     }),
+    (25, |a| a.before.iter_mut().for_each(to_directed)),
     (25, |a| a.before.push(question())),
     (24, |a| a.last.body[ON] = 2),
     (23, |a| lengthen(&mut a.last, 10)),
-    (22, |a| a.last.tag = 4),
+    (22, |a| a.last.tag = 5),
+    (21, |a| a.is_cut = true),
+];
+const DIRECTED_BREACHES: [Breach<Attempt>; 11] = [
+    (30, |a| a.last.body[3] = 1),
+    (29, |a| a.last.body[6] = 100),
+    (28, |a| a.last.body[6] = 99),
+    (26, |a| {
+        let mut draft = Draft::row(3).directed();
+        draft.join(0, 1);
+        (1..MOST_LINKS).for_each(|_| draft.join(1, 2));
+        a.before = draft.pieces();
+        a.before.pop();
+    }),
+    (25, |a| a.before.iter_mut().for_each(to_plain)),
+    (25, |a| a.before.push(question())),
+    (24, |a| a.last.body[ON] = 2),
+    (24, |a| a.last.body[DIRECTION] = 3),
+    (23, |a| lengthen(&mut a.last, 9)),
+    (22, |a| a.last.tag = 5),
     (21, |a| a.is_cut = true),
 ];
 const QUESTION_BREACHES: [Breach<Attempt>; 7] = [
@@ -442,13 +621,20 @@ const QUESTION_BREACHES: [Breach<Attempt>; 7] = [
 fn order(group: &mut Group, _: &mut Draw) -> Outcome {
     let node = Piece::new(NODE, [&[9, 0, 77][..], b"Hill"].concat());
     let link = Piece::new(LINK, vec![9, 0, 100, 60, 9, 0, 101, 60, 1]);
-    let fields: [(Piece, &[Breach<Attempt>]); 3] =
-        [(node, &NODE_BREACHES), (link, &LINK_BREACHES), (question(), &QUESTION_BREACHES)];
+    let directed = Piece::new(DIRECTED_LINK, vec![9, 0, 100, 60, 9, 0, 101, 60, 1, 2]);
+    let fields: [(Piece, &[Breach<Attempt>]); 4] = [
+        (node, &NODE_BREACHES),
+        (link, &LINK_BREACHES),
+        (directed, &DIRECTED_BREACHES),
+        (question(), &QUESTION_BREACHES),
+    ];
     for (piece, breaches) in fields {
         for chosen in 0..1 << breaches.len() {
             let mut attempt = attempt(piece.clone());
-            if piece.tag == NODE {
-                attempt.before.truncate(3);
+            match piece.tag {
+                NODE => attempt.before.truncate(3),
+                DIRECTED_LINK => attempt.before.iter_mut().for_each(to_directed),
+                _ => (),
             }
             let lowest = break_rules(breaches, chosen, &mut attempt);
             let mut chart = lay_pieces(&attempt.before);
@@ -460,7 +646,7 @@ fn order(group: &mut Group, _: &mut Draw) -> Outcome {
                 chart.extend(question().lay());
             }
             let name = format!("order of field {}", piece.tag);
-            for (other, lent) in [(0, 888), (10, 887), (10, 0)] {
+            for (other, lent) in [(0, SIZE), (10, SIZE - 1), (10, 0)] {
                 let came = try_read(group, &name, &chart, lent)?;
                 let refusal = lowest.map_or((other, 0), |number| (number, place));
                 known(group, &name, refusal, came)?;
@@ -488,22 +674,24 @@ impl Request {
 }
 
 // The last field first and in it the last number, as a later row decides.
-const IMAGE_BREACHES: [Breach<Request>; 15] = [
+const IMAGE_BREACHES: [Breach<Request>; 17] = [
     (10, |r| r.room -= 1),
-    (28, |r| r.image[7] = 99),
-    (24, |r| r.image[3] = 4),
+    (28, |r| r.image[8] = 99),
+    (24, |r| r.image[4] = 4),
     (30, |r| r.link(5)[3] = 2),
     (29, |r| r.link(5)[6] = 1),
     (28, |r| r.link(5)[6] = 99),
     (24, |r| r.link(5)[ON] = 2),
+    (24, |r| r.link(5)[DIRECTION] = 1),
     (24, |r| r.link(0)[ON] = 255),
+    (24, |r| r.image[FORM] = 3),
     (27, |r| r.node(3)[2] = 1),
     (24, |r| r.node(3)[LABEL] = 127),
     (23, |r| r.node(3)[LABEL_LENGTH] = 25),
     (24, |r| r.node(0)[1] = 4),
     (26, |r| r.image[LINK_COUNT] = 49),
     (26, |r| r.image[NODE_COUNT] = 17),
-    (10, |r| r.size = 887),
+    (10, |r| r.size = 936),
 ];
 
 // Every choice of breaches in one image: the first field's lowest number comes.
@@ -527,6 +715,13 @@ fn sweeps(group: &mut Group, _: &mut Draw) -> Outcome {
             let mut chart = S;
             chart[place] = value;
             try_read(group, "every byte of S", &chart, chart_image::SIZE)?;
+        }
+    }
+    for place in 0..ONE_WAY.len() {
+        for value in 0..=u8::MAX {
+            let mut chart = ONE_WAY;
+            chart[place] = value;
+            try_read(group, "every byte of S, one way", &chart, chart_image::SIZE)?;
         }
     }
     let image = Draft::s().image();

@@ -1,7 +1,7 @@
 //! A chart as values, and as the pieces that it is laid from; both may break every rule.
 
-use crate::chart::{lay_field, LINK, MOST_LINKS, MOST_NODES, NODE, QUESTION};
-use crate::chart_image::{self, LINK_COUNT, NODE_COUNT};
+use crate::chart::{lay_field, DIRECTED_LINK, LINK, MOST_LINKS, MOST_NODES, NODE, QUESTION};
+use crate::chart_image::{self, FORM, LINK_COUNT, NODE_COUNT};
 use crate::wire::Address;
 
 /// A brigade and a node.
@@ -17,12 +17,15 @@ pub struct DraftNode {
 pub struct DraftLink {
     pub ends: [Address; 2],
     pub on: usize,
+    pub direction: usize,
 }
 
 #[derive(Clone)]
 pub struct Draft {
     pub nodes: Vec<DraftNode>,
     pub links: Vec<DraftLink>,
+    /// The tag of the links; a plain one is laid without its direction.
+    pub form: u8,
     pub from: Station,
     pub to: Station,
 }
@@ -61,10 +64,10 @@ impl DraftNode {
 }
 
 impl DraftLink {
-    /// An on link.
+    /// An on link, both ways.
     pub fn new(one: (usize, usize, usize), other: (usize, usize, usize)) -> DraftLink {
         let ends = [one, other].map(|(brigade, node, port)| Address::new(brigade, node, port));
-        DraftLink { ends, on: 1 }
+        DraftLink { ends, on: 1, direction: 0 }
     }
 
     fn body(self) -> Vec<u8> {
@@ -72,7 +75,7 @@ impl DraftLink {
             let [brigade, high, low] = station_bytes((a.brigade, a.node));
             [brigade, high, low, a.port as u8]
         };
-        [&self.ends.map(end).concat()[..], &[self.on as u8]].concat()
+        [&self.ends.map(end).concat()[..], &[self.on as u8, self.direction as u8]].concat()
     }
 }
 
@@ -95,6 +98,7 @@ impl Draft {
         let mut s = Draft {
             nodes: nodes.map(|(node, label)| DraftNode::new((9, node), label.as_bytes())).to_vec(),
             links: links.map(link).to_vec(),
+            form: LINK,
             from: (9, 1),
             to: (9, 30),
         };
@@ -106,7 +110,7 @@ impl Draft {
     pub fn row(count: usize) -> Draft {
         let nodes = (0..count).map(|place| DraftNode::new((9, 100 + place), b"")).collect();
         let last = 100 + count.max(1) - 1;
-        Draft { nodes, links: Vec::new(), from: (9, 100), to: (9, last) }
+        Draft { nodes, links: Vec::new(), form: LINK, from: (9, 100), to: (9, last) }
     }
 
     /// Adds a link between the nodes at two places, at ports that no link has used there.
@@ -116,7 +120,21 @@ impl Draft {
             let free = |port: &usize| !self.is_used(Address::new(brigade, node, *port));
             Address::new(brigade, node, (1..64).find(free).expect("a free port"))
         });
-        self.links.push(DraftLink { ends, on: 1 });
+        self.links.push(DraftLink { ends, on: 1, direction: 0 });
+    }
+
+    /// The same in the directed form.
+    pub fn directed(mut self) -> Draft {
+        self.form = DIRECTED_LINK;
+        self
+    }
+
+    /// Gives the directions of the first links, in the directed form.
+    pub fn direct(mut self, directions: &[usize]) -> Draft {
+        for (link, direction) in self.links.iter_mut().zip(directions) {
+            link.direction = *direction;
+        }
+        self.directed()
     }
 
     /// Whether a link has this end.
@@ -139,7 +157,9 @@ impl Draft {
     pub fn pieces(&self) -> Vec<Piece> {
         let node = |n: &DraftNode| [&station_bytes(n.station)[..], &n.label].concat();
         let nodes = self.nodes.iter().map(|n| Piece::new(NODE, node(n)));
-        let links = self.links.iter().map(|link| Piece::new(LINK, link.body()));
+        let size = if self.form == DIRECTED_LINK { 10 } else { 9 };
+        let link = |link: &DraftLink| Piece::new(self.form, link.body()[..size].to_vec());
+        let links = self.links.iter().map(link);
         let question = [self.from, self.to].map(station_bytes).concat();
         nodes.chain(links).chain([Piece::new(QUESTION, question)]).collect()
     }
@@ -154,8 +174,9 @@ impl Draft {
         let mut image = vec![0; chart_image::SIZE];
         image[NODE_COUNT] = self.nodes.len() as u8;
         image[LINK_COUNT] = self.links.len() as u8;
-        image[2..5].copy_from_slice(&station_bytes(self.from));
-        image[5..8].copy_from_slice(&station_bytes(self.to));
+        image[FORM] = self.form;
+        image[3..6].copy_from_slice(&station_bytes(self.from));
+        image[6..9].copy_from_slice(&station_bytes(self.to));
         for (place, node) in self.nodes.iter().take(MOST_NODES).enumerate() {
             let head = [&station_bytes(node.station)[..], &[node.label.len() as u8]].concat();
             let bytes = head.iter().chain(&node.label);

@@ -1,21 +1,24 @@
 //! Drawn charts and images, sound and damaged: in their values, in the fields they are laid from,
 //! and in their bytes.
 
-use crate::chart::{Refusal, LINK, MOST_LABEL, MOST_LINKS, MOST_NODES, NODE, QUESTION};
-use crate::chart_call::{try_read, try_write};
+use crate::chart::{Refusal, DIRECTED_LINK, LINK, NODE, QUESTION};
+use crate::chart::{MOST_LABEL, MOST_LINKS, MOST_NODES};
+use crate::chart_call::{try_move, try_read, try_write};
 use crate::chart_draft::{lay_pieces, Draft, DraftLink, DraftNode, Piece, Station};
-use crate::chart_image::{self, LINK_COUNT, NODE_COUNT};
+use crate::chart_image::{self, FORM, LINK_COUNT, NODE_COUNT, SIZE};
 use crate::draw::Draw;
 use crate::group::{Group, Outcome, Tally, Tests};
 use crate::routing::draw_station;
 use crate::wire::Address;
 use std::collections::HashSet;
 
-pub const GROUPS: &[Tests] = &[("chart reads", reads), ("chart writes", writes)];
+pub const GROUPS: &[Tests] =
+    &[("chart reads", reads), ("chart writes", writes), ("chart moves drawn", moves)];
 
 // Sound charts that are drawn, and how often each of them is damaged anew.
 const READ: usize = 60_000;
 const WRITTEN: usize = 12_000;
+const MOVED: usize = 12_000;
 const ANEW: usize = 4;
 
 // Times that each number must come, in each kind of field that can earn it.
@@ -81,7 +84,17 @@ pub fn draw_link(draw: &mut Draw, draft: &mut Draft) {
 /// Adds a link between the nodes at these places.
 pub fn draw_link_between(draw: &mut Draw, draft: &mut Draft, one: usize, other: usize) {
     let ends = [draw_end(draw, draft, one), draw_end(draw, draft, other)];
-    draft.links.push(DraftLink { ends, on: draw.one_of(&[1, 1, 1, 0]) });
+    draft.links.push(DraftLink { ends, on: draw.one_of(&[1, 1, 1, 0]), direction: 0 });
+}
+
+/// Leaves a chart plain, or gives it the directed form: every link both ways, or most, or few.
+pub fn draw_form(draw: &mut Draw, draft: &mut Draft) {
+    let directions: &[usize] =
+        draw.one_of(&[&[0], &[0], &[0], &[0, 0, 0, 0, 1, 2], &[0, 1, 2], &[0, 1], &[1, 2]]);
+    if directions.len() > 1 || draw.below(3) == 0 {
+        draft.form = DIRECTED_LINK;
+    }
+    draft.links.iter_mut().for_each(|link| link.direction = draw.one_of(directions));
 }
 
 // Draws a chart that keeps every rule, of each size class.
@@ -91,13 +104,14 @@ fn draw_draft(draw: &mut Draw) -> Draft {
     let count = draw.one_of(&[1, 2, few, few, few, few, few, few, many, many, MOST_NODES]);
     let nodes = draw_nodes(draw, count);
     let [from, to] = [draw.below(count), draw.below(count)].map(|place| nodes[place].station);
-    let mut draft = Draft { nodes, links: Vec::new(), from, to };
+    let mut draft = Draft { nodes, links: Vec::new(), form: LINK, from, to };
     if count > 1 {
         let few = draw.within(2, 8);
         let many = draw.within(9, 47);
         let links = draw.one_of(&[0, 1, few, few, few, few, few, few, many, MOST_LINKS]);
         (0..links).for_each(|_| draw_link(draw, &mut draft));
     }
+    draw_form(draw, &mut draft);
     draft
 }
 
@@ -187,7 +201,7 @@ fn crowd_links(d: &mut Draft, draw: &mut Draw) {
     }
 }
 
-const DRAFT_FAULTS: [Fault<Draft>; 22] = [
+const DRAFT_FAULTS: [Fault<Draft>; 25] = [
     |d, draw| change_node(d, draw, |n, draw| n.label.resize(draw.within(25, 40), b'x')),
     |d, draw| change_node(d, draw, |n, draw| n.label.resize(draw.one_of(&[25, 255]), b'x')),
     |d, draw| {
@@ -200,6 +214,9 @@ const DRAFT_FAULTS: [Fault<Draft>; 22] = [
     |d, draw| change_end(d, draw, |e, _| e.port = 0),
     |d, draw| change_link(d, draw, |l, draw| l.on = draw.one_of(&[2, 3, 128, 255])),
     |d, draw| change_link(d, draw, |l, _| l.on ^= 1),
+    |d, draw| change_link(d, draw, |l, draw| l.direction = draw.one_of(&[3, 4, 128, 255])),
+    |d, draw| change_link(d, draw, |l, draw| l.direction = draw.below(3)),
+    |d, _| d.form = if d.form == LINK { DIRECTED_LINK } else { LINK },
     |d, draw| d.from.1 = draw.bad_node(),
     |d, draw| d.to.1 = draw.bad_node(),
     |d, draw| {
@@ -233,7 +250,30 @@ fn resize_body(p: &mut Piece, size: usize) {
     p.length = size;
 }
 
-const PIECE_FAULTS: [Fault<Vec<Piece>>; 14] = [
+// Gives one link the other tag, and a body to fit.
+fn mix(p: &mut [Piece], draw: &mut Draw) {
+    let is_link = |piece: &&mut Piece| [LINK, DIRECTED_LINK].contains(&piece.tag);
+    let mut links: Vec<&mut Piece> = p.iter_mut().filter(is_link).collect();
+    if !links.is_empty() {
+        let place = draw.below(links.len());
+        let link = &mut links[place];
+        match link.tag {
+            LINK => {
+                link.tag = DIRECTED_LINK;
+                link.body.push(draw.below(3) as u8);
+            }
+            _ => {
+                link.tag = LINK;
+                link.body.pop();
+            }
+        }
+        link.length = link.body.len();
+    }
+}
+
+const PIECE_FAULTS: [Fault<Vec<Piece>>; 16] = [
+    |p, draw| mix(p, draw),
+    |p, draw| mix(p, draw),
     |p, draw| {
         let (one, other) = (draw.below(p.len()), draw.below(p.len()));
         p.swap(one, other);
@@ -254,8 +294,10 @@ const PIECE_FAULTS: [Fault<Vec<Piece>>; 14] = [
     |p, _| {
         p.pop();
     },
-    |p, draw| change_piece(p, draw, |f, draw| f.tag = draw.one_of(&[0, 1, 2, 3, 4, 128, 255])),
-    |p, draw| change_piece(p, draw, |f, draw| f.length = draw.one_of(&[0, 3, 6, 9, 256, 65535])),
+    |p, draw| change_piece(p, draw, |f, draw| f.tag = draw.one_of(&[0, 1, 2, 3, 4, 5, 255])),
+    |p, draw| {
+        change_piece(p, draw, |f, draw| f.length = draw.one_of(&[0, 3, 6, 9, 10, 256, 65535]))
+    },
     |p, draw| change_piece(p, draw, |f, draw| f.length = (f.length + 2 * draw.below(2)).max(1) - 1),
     |p, draw| change_piece(p, draw, |f, draw| resize_body(f, f.body.len() + draw.within(1, 3))),
     |p, draw| change_piece(p, draw, |f, draw| resize_body(f, draw.below(f.body.len() + 1))),
@@ -282,7 +324,7 @@ const BYTE_FAULTS: [Fault<Vec<u8>>; 10] = [
         let size = draw.within(1, 40);
         b.extend(draw.bytes(size));
     },
-    |b, draw| b.push(draw.one_of(&[0, 1, 2, 3, 255])),
+    |b, draw| b.push(draw.one_of(&[0, 1, 2, 3, 4, 255])),
     |b, draw| {
         if !b.is_empty() {
             b.remove(draw.below(b.len()));
@@ -303,9 +345,9 @@ const BYTE_FAULTS: [Fault<Vec<u8>>; 10] = [
         // Noise that begins as a field may.
         let size = draw.within(3, 1200);
         *b = draw.bytes(size);
-        b[0] = draw.one_of(&[NODE, LINK, QUESTION]);
+        b[0] = draw.one_of(&[NODE, LINK, QUESTION, DIRECTED_LINK]);
         b[1] = 0;
-        b[2] = draw.one_of(&[3, 6, 9, 27, 28]);
+        b[2] = draw.one_of(&[3, 6, 9, 10, 27, 28]);
     },
 ];
 
@@ -334,6 +376,7 @@ struct Tallies {
     accepted: Tally,
     node: Tally,
     link: Tally,
+    directed: Tally,
     question: Tally,
     other: Tally,
     end: Tally,
@@ -345,6 +388,7 @@ impl Tallies {
             (0 | 10, _) => &mut self.accepted,
             (_, Some(&NODE)) => &mut self.node,
             (_, Some(&LINK)) => &mut self.link,
+            (_, Some(&DIRECTED_LINK)) => &mut self.directed,
             (_, Some(&QUESTION)) => &mut self.question,
             (_, Some(_)) => &mut self.other,
             (_, None) => &mut self.end,
@@ -357,7 +401,8 @@ fn reads(group: &mut Group, draw: &mut Draw) -> Outcome {
     let mut tallies = Tallies {
         accepted: Tally::new("pz_chart_read, accepted"),
         node: Tally::new("pz_chart_read, a node refused"),
-        link: Tally::new("pz_chart_read, a link refused"),
+        link: Tally::new("pz_chart_read, a plain link refused"),
+        directed: Tally::new("pz_chart_read, a directed link refused"),
         question: Tally::new("pz_chart_read, a question refused"),
         other: Tally::new("pz_chart_read, another tag refused"),
         end: Tally::new("pz_chart_read, the end refused"),
@@ -366,7 +411,7 @@ fn reads(group: &mut Group, draw: &mut Draw) -> Outcome {
         let draft = draw_draft(draw);
         for _ in 0..ANEW {
             let chart = damage(draw, draft.clone());
-            let lent = draw.one_of(&[888, 888, 888, 888, 888, 0, 887, 889, 1000]);
+            let lent = draw.one_of(&[SIZE, SIZE, SIZE, SIZE, SIZE, 0, SIZE - 1, SIZE + 1, 1000]);
             let came = try_read(group, "drawn", &chart, lent)?;
             tallies.saw(&chart, came);
         }
@@ -374,6 +419,7 @@ fn reads(group: &mut Group, draw: &mut Draw) -> Outcome {
     tallies.accepted.settle_often(group, &[0, 10], OFTEN)?;
     tallies.node.settle_often(group, &[21, 23, 24, 25, 26, 27], OFTEN)?;
     tallies.link.settle_often(group, &[21, 23, 24, 25, 26, 28, 29, 30], OFTEN)?;
+    tallies.directed.settle_often(group, &[21, 23, 24, 25, 26, 28, 29, 30], OFTEN)?;
     tallies.question.settle_often(group, &[21, 23, 24, 25, 28], OFTEN)?;
     tallies.other.settle_often(group, &[21, 22], OFTEN)?;
     tallies.end.settle_often(group, &[31], OFTEN)
@@ -396,13 +442,14 @@ fn fill_unlooked(image: &mut [u8], draw: &mut Draw) {
     }
 }
 
-const IMAGE_FAULTS: [Fault<Vec<u8>>; 5] = [
+const IMAGE_FAULTS: [Fault<Vec<u8>>; 6] = [
     |i, draw| i[NODE_COUNT] = draw.one_of(&[17, 18, 32, 128, 255]),
     |i, draw| i[LINK_COUNT] = draw.one_of(&[49, 50, 64, 128, 255]),
+    |i, draw| i[FORM] = draw.one_of(&[0, 1, 2, 3, 4, 5, 255]),
     |i, draw| i[NODE_COUNT] = draw.below(17) as u8,
     |i, draw| i[LINK_COUNT] = draw.below(49) as u8,
     |i, draw| {
-        let place = draw.below(chart_image::SIZE);
+        let place = draw.below(SIZE);
         i[place] ^= 1 << draw.below(8);
     },
 ];
@@ -421,7 +468,7 @@ fn damage_image(draw: &mut Draw, mut draft: Draft) -> (Vec<u8>, usize) {
     }
     let noise = draw.bytes(40);
     image.extend(noise);
-    image.truncate(draw.one_of(&[888, 888, 888, 888, 888, 888, 889, 928, 887, 0]));
+    image.truncate(draw.one_of(&[SIZE, SIZE, SIZE, SIZE, SIZE, SIZE + 1, SIZE + 40, SIZE - 1, 0]));
     let size = draft.lay().len();
     let less = draw.below(size);
     let more = draw.within(size + 1, size + 100);
@@ -438,4 +485,27 @@ fn writes(group: &mut Group, draw: &mut Draw) -> Outcome {
         }
     }
     tally.settle_often(group, &[0, 10, 23, 24, 26, 27, 28, 29, 30], OFTEN)
+}
+
+// ---- moves ----
+
+fn moves(group: &mut Group, draw: &mut Draw) -> Outcome {
+    let mut renewed = Tally::new("pz_chart_renew");
+    let mut restored = Tally::new("pz_chart_restore");
+    for _ in 0..MOVED {
+        let draft = draw_draft(draw);
+        for _ in 0..ANEW {
+            let chart = damage(draw, draft.clone());
+            let size = chart.len();
+            let links = draft.links.len();
+            let any = draw.below(size + 2 * links + 1);
+            let room = draw.one_of(&[1113, size + links, size, any]);
+            renewed.saw(try_move(group, "drawn", DIRECTED_LINK, &chart, room)?.0);
+            let room = draw.one_of(&[1113, size, size.saturating_sub(links), any]);
+            restored.saw(try_move(group, "drawn", LINK, &chart, room)?.0);
+        }
+    }
+    let refusals: Vec<u8> = (21..=31).collect();
+    renewed.settle_often(group, &[&[0, 10], &refusals[..]].concat(), OFTEN)?;
+    restored.settle_often(group, &[&[0, 10], &refusals[..], &[32]].concat(), OFTEN)
 }

@@ -1,27 +1,30 @@
-//! The image of a chart that passes through the door, between its bytes and the chart's fields. A
-//! link and the question have the same bytes in both; a node has its label's length before the
-//! label, and room for the longest.
+//! The image of a chart that passes through the door, between its bytes and the chart's fields. The
+//! question has the same bytes in both, and so has a directed link; a plain link has the direction
+//! 0 after its own. A node has its label's length before the label, and room for the longest.
 
-use crate::chart::{lay_field, Field, LINK, MOST_LABEL, MOST_LINKS, MOST_NODES, NODE, QUESTION};
+use crate::chart::{self, lay_field, Field, DIRECTED_LINK, LINK, NODE, QUESTION};
+use crate::chart::{MOST_LABEL, MOST_LINKS, MOST_NODES};
 use std::iter::repeat;
 use std::ops::Range;
 
-pub const SIZE: usize = 888;
+pub const SIZE: usize = 937;
 
 pub const NODE_COUNT: usize = 0;
 pub const LINK_COUNT: usize = 1;
-const QUESTION_AT: Range<usize> = 2..8;
+pub const FORM: usize = 2;
+const QUESTION_AT: Range<usize> = 3..9;
 const NODE_SIZE: usize = 28;
-const NODES_AT: usize = 8;
-const LINK_SIZE: usize = 9;
+const NODES_AT: usize = 9;
+const LINK_SIZE: usize = 10;
 const LINKS_AT: usize = NODES_AT + MOST_NODES * NODE_SIZE;
 
 // Bytes within a node.
 pub const LABEL_LENGTH: usize = 3;
 pub const LABEL: usize = 4;
 
-// Byte within a link.
+// Bytes within a link.
 pub const ON: usize = 8;
+pub const DIRECTION: usize = 9;
 
 /// Gives the bytes of the node at this place.
 pub fn node(place: usize) -> Range<usize> {
@@ -39,7 +42,7 @@ pub fn counts(image: &[u8]) -> [usize; 2] {
 }
 
 /// Gives the bytes that a writer does not look at: nodes, links and parts of labels past their
-/// counts, and what follows the image.
+/// counts, the form where there are no links, and what follows the image.
 pub fn unlooked(image: &[u8]) -> Vec<usize> {
     let [nodes, links] = counts(image);
     let past_label = |place: usize| {
@@ -51,6 +54,7 @@ pub fn unlooked(image: &[u8]) -> Vec<usize> {
         .flat_map(past_label)
         .chain((nodes..MOST_NODES).flat_map(node))
         .chain((links..MOST_LINKS).flat_map(link))
+        .chain((FORM..=FORM).filter(|_| links == 0))
         .chain(SIZE..image.len())
         .collect()
 }
@@ -65,10 +69,11 @@ pub fn lay(fields: &[Field]) -> Vec<u8> {
         image[node(place)][..bytes.len()].copy_from_slice(&bytes);
         image[NODE_COUNT] += 1;
     }
-    for (place, body) in bodies(LINK).enumerate() {
-        image[link(place)].copy_from_slice(body);
+    for (place, field) in fields.iter().filter(|field| field.is_link()).enumerate() {
+        image[link(place)][..field.body.len()].copy_from_slice(field.body);
         image[LINK_COUNT] += 1;
     }
+    image[FORM] = chart::form(fields);
     for body in bodies(QUESTION) {
         image[QUESTION_AT].copy_from_slice(body);
     }
@@ -76,7 +81,8 @@ pub fn lay(fields: &[Field]) -> Vec<u8> {
 }
 
 /// Gives the chart of an image whose counts are in range. A label that says it is longer than its
-/// room is filled up with blanks.
+/// room is filled up with blanks. A form that is no link's tag, and a direction that a plain link
+/// has no byte for, become an on byte out of range.
 pub fn take(image: &[u8]) -> Vec<u8> {
     let [nodes, links] = counts(image);
     let mut chart = Vec::new();
@@ -87,7 +93,11 @@ pub fn take(image: &[u8]) -> Vec<u8> {
         chart.extend(lay_field(NODE, body.len(), &body));
     }
     for bytes in (0..links).map(|place| &image[link(place)]) {
-        chart.extend(lay_field(LINK, bytes.len(), bytes));
+        chart.extend(match (image[FORM], bytes[DIRECTION]) {
+            (DIRECTED_LINK, _) => lay_field(DIRECTED_LINK, LINK_SIZE, bytes),
+            (LINK, 0) => lay_field(LINK, DIRECTION, &bytes[..DIRECTION]),
+            _ => lay_field(LINK, DIRECTION, &[&bytes[..ON], &[255]].concat()),
+        });
     }
     let question = &image[QUESTION_AT];
     chart.extend(lay_field(QUESTION, question.len(), question));

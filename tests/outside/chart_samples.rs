@@ -3,7 +3,7 @@
 
 use crate::chart::{Refusal, NODE};
 use crate::chart_call::known_read;
-use crate::chart_cases::{largest, S};
+use crate::chart_cases::{largest, to_directed, ONE_WAY, S};
 use crate::chart_draft::{lay_pieces, Draft, DraftLink, Piece};
 use crate::draw::Draw;
 use crate::group::{Group, Outcome, Tests};
@@ -26,7 +26,7 @@ type Sample = (&'static str, Refusal, usize, fn() -> Vec<u8>);
 
 const ACCEPTED: Refusal = (0, 0);
 
-const SAMPLES: [Sample; 24] = [
+const SAMPLES: [Sample; 28] = [
     ("s", ACCEPTED, 4, || S.to_vec()),
     ("unlabelled", ACCEPTED, 4, || {
         changed(|d| d.nodes.iter_mut().for_each(|node| node.label.clear()))
@@ -37,14 +37,18 @@ const SAMPLES: [Sample; 24] = [
     ("parallel", ACCEPTED, 6, || {
         changed(|d| d.links.push(DraftLink::new((9, 20, 60), (9, 30, 60))))
     }),
+    ("one-way", ACCEPTED, 3, || ONE_WAY.to_vec()),
+    ("renewed", ACCEPTED, 4, || Draft::s().directed().lay()),
     ("lines", ACCEPTED, 4, || changed(lines_for_labels)),
     ("largest", ACCEPTED, 3, || largest().lay()),
     ("thousand", ACCEPTED, 1000, || thousand(0).lay()),
     ("thousand-one", ACCEPTED, 1001, || thousand(1).lay()),
     ("cut", (21, 115), 0, || S[..120].to_vec()),
-    ("tag", (22, 43), 0, || rearranged(|p| p[4].tag = 4)),
+    ("tag", (22, 43), 0, || rearranged(|p| p[4].tag = 5)),
     ("length", (23, 13), 0, || changed(|d| d.nodes[1].label = vec![b'x'; 25])),
     ("range", (24, 0), 0, || vec![1, 0, 3, 9, 4, 0]),
+    ("direction", (24, 43), 0, || Draft::s().direct(&[3]).lay()),
+    ("mixed", (25, 56), 0, || rearranged(|p| to_directed(&mut p[4]))),
     ("after", (25, 124), 0, || rearranged(|p| p.push(Piece::new(NODE, vec![9, 0, 40])))),
     ("crowd", (26, 96), 0, || Draft::row(17).lay()),
     ("twice", (27, 33), 0, || changed(|d| d.nodes[3].station = (9, 20))),

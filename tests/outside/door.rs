@@ -63,6 +63,22 @@ extern "C" {
         n: usize,
         written: *mut u16,
     ) -> u8;
+    fn pz_chart_renew(
+        chart: *const u8,
+        n: usize,
+        out: *mut u8,
+        m: usize,
+        written: *mut u16,
+        place: *mut u16,
+    ) -> u8;
+    fn pz_chart_restore(
+        chart: *const u8,
+        n: usize,
+        out: *mut u8,
+        m: usize,
+        written: *mut u16,
+        place: *mut u16,
+    ) -> u8;
     fn pz_first(chart: *const u8, n: usize, route: *mut u8, m: usize, length: usize) -> u8;
     fn pz_next(chart: *const u8, n: usize, route: *mut u8, m: usize, length: usize) -> u8;
     fn pz_sheet(chart: *const u8, n: usize, text: *mut u8, m: usize, written: *mut u32) -> u8;
@@ -410,6 +426,44 @@ pub fn chart_write(image: &[u8], chart_size: usize) -> Answer {
         pz_chart_write(image.start(), image.size, chart.start(), chart.size, written.start())
     };
     Answer { number, lent: chart, handed_in: vec![image], beside: vec![written] }
+}
+
+/// Calls pz_chart_renew and lends it a buffer of this size.
+pub fn chart_renew(chart: &[u8], room: usize) -> Answer {
+    let mut chart = Lent::holding("chart", chart);
+    let mut out = Lent::blank("out", room);
+    let mut written = Beside::new("written", u16::BITS);
+    let mut place = Beside::new("place", u16::BITS);
+    let number = unsafe {
+        pz_chart_renew(
+            chart.start(),
+            chart.size,
+            out.start(),
+            out.size,
+            written.start(),
+            place.start(),
+        )
+    };
+    Answer { number, lent: out, handed_in: vec![chart], beside: vec![written, place] }
+}
+
+/// Calls pz_chart_restore and lends it a buffer of this size.
+pub fn chart_restore(chart: &[u8], room: usize) -> Answer {
+    let mut chart = Lent::holding("chart", chart);
+    let mut out = Lent::blank("out", room);
+    let mut written = Beside::new("written", u16::BITS);
+    let mut place = Beside::new("place", u16::BITS);
+    let number = unsafe {
+        pz_chart_restore(
+            chart.start(),
+            chart.size,
+            out.start(),
+            out.size,
+            written.start(),
+            place.start(),
+        )
+    };
+    Answer { number, lent: out, handed_in: vec![chart], beside: vec![written, place] }
 }
 
 /// Calls pz_first on a route buffer that holds these bytes.

@@ -11,6 +11,7 @@ mod chart_cases;
 mod chart_draft;
 mod chart_draws;
 mod chart_image;
+mod chart_moves;
 mod chart_samples;
 mod damage;
 mod door;
@@ -61,6 +62,7 @@ fn main() {
         sequences::GROUPS,
         chart_cases::GROUPS,
         chart_draws::GROUPS,
+        chart_moves::GROUPS,
         chart_samples::GROUPS,
         trace_cases::GROUPS,
         trace_draws::GROUPS,

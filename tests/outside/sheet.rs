@@ -1,7 +1,7 @@
-//! A second printed sheet, from document 01. The fields of a chart are printed one by one, and then
-//! the second list of its routes.
+//! A second printed sheet, from documents 01 and 02. The fields of a chart are printed one by one,
+//! and then the second list of its routes.
 
-use crate::chart::{self, Field, LINK, NODE, QUESTION};
+use crate::chart::{self, Field, NODE, QUESTION};
 use crate::door::{Expected, Given};
 use crate::trace::Routes;
 
@@ -38,7 +38,8 @@ fn slashed(bytes: &[u8]) -> String {
 
 fn print_fields(fields: &[Field]) -> String {
     let of = |tag: u8| fields.iter().filter(move |field| field.tag == tag);
-    let mut text = format!("nodes {} links {}\n", of(NODE).count(), of(LINK).count());
+    let links: Vec<&Field> = fields.iter().filter(|field| field.is_link()).collect();
+    let mut text = format!("nodes {} links {}\n", of(NODE).count(), links.len());
     for (place, node) in of(NODE).enumerate() {
         let (station, label) = node.body.split_at(3);
         text += &format!("{place} {}", slashed(station));
@@ -47,10 +48,11 @@ fn print_fields(fields: &[Field]) -> String {
         }
         text += "\n";
     }
-    for (place, link) in of(LINK).enumerate() {
+    for (place, link) in links.iter().enumerate() {
         let ends: Vec<String> = link.ends().map(|end| slashed(&end)).collect();
         let on = ["off", "on"][usize::from(link.body[8])];
-        text += &format!("{place} {} {on}\n", ends.join(" "));
+        let direction = ["both", "out", "back"][usize::from(link.direction())];
+        text += &format!("{place} {} {on} {direction}\n", ends.join(" "));
     }
     for question in of(QUESTION) {
         let asked: Vec<String> = question.stations().map(|station| slashed(&station)).collect();

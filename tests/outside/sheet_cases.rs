@@ -1,7 +1,7 @@
 //! Printed sheets beside the second one: document 01's own, the sample charts, both sides of every
 //! limit, and drawn charts, sound and damaged, in buffers of any size.
 
-use crate::chart_cases::{largest, S};
+use crate::chart_cases::{largest, ONE_WAY, S};
 use crate::chart_draft::Draft;
 use crate::chart_draws::damage;
 use crate::door::{self, hex};
@@ -24,7 +24,7 @@ const MANY: usize = 100_000;
 const DRAWN: usize = 2_000;
 
 // No sheet is longer.
-const LONGEST: usize = 47_129;
+const LONGEST: usize = 47_369;
 
 const TEXT: &str = "\
 nodes 4 links 6
@@ -32,15 +32,34 @@ nodes 4 links 6
 1 9/20 Hill
 2 9/21 Hill
 3 9/30 Quay
-0 9/1/2 9/20/1 on
-1 9/1/3 9/21/1 on
-2 9/20/2 9/30/1 on
-3 9/21/2 9/30/2 on
-4 9/20/3 9/21/3 on
-5 9/1/4 9/30/3 off
+0 9/1/2 9/20/1 on both
+1 9/1/3 9/21/1 on both
+2 9/20/2 9/30/1 on both
+3 9/21/2 9/30/2 on both
+4 9/20/3 9/21/3 on both
+5 9/1/4 9/30/3 off both
 from 9/1 to 9/30
 0 2
 0 4 3
+1 3
+1 4 2
+end
+";
+
+const ONE_WAY_TEXT: &str = "\
+nodes 4 links 6
+0 9/1 Control
+1 9/20 Hill
+2 9/21 Hill
+3 9/30 Quay
+0 9/1/2 9/20/1 on out
+1 9/1/3 9/21/1 on both
+2 9/20/2 9/30/1 on both
+3 9/21/2 9/30/2 on both
+4 9/20/3 9/21/3 on back
+5 9/1/4 9/30/3 off both
+from 9/1 to 9/30
+0 2
 1 3
 1 4 2
 end
@@ -61,6 +80,10 @@ fn document(group: &mut Group, _: &mut Draw) -> Outcome {
         .check(second.as_deref() == Some(TEXT), || format!("the second sheet of S: {second:?}"))?;
     for room in [TEXT.len(), TEXT.len() + 1, LONGEST - 1, LONGEST, LONGEST + 1] {
         known(group, "S", &S, TEXT, room)?;
+    }
+    let size = ONE_WAY_TEXT.len();
+    for room in [0, size - 1, size, size + 1, LONGEST] {
+        known(group, "S, one way", &ONE_WAY, ONE_WAY_TEXT, room)?;
     }
     (0..TEXT.len()).try_for_each(|room| known(group, "S", &S, TEXT, room).map(|_| ()))
 }
@@ -103,7 +126,7 @@ fn limits(group: &mut Group, _: &mut Draw) -> Outcome {
 }
 
 fn rooms(group: &mut Group, _: &mut Draw) -> Outcome {
-    for draft in [Draft::s(), largest(), Draft::row(16), thousand(1)] {
+    for draft in [Draft::s(), largest(), largest().directed(), Draft::row(16), thousand(1)] {
         let chart = draft.lay();
         let text = print(&chart, MANY).expect("a chart of few routes");
         let near = text.len() - 3..text.len() + 3;

@@ -1,7 +1,7 @@
-//! A second list of a chart's routes, from document 01. Each way of walking on is put on a pile
-//! until none is left; those that came to the end are sorted, and what is next is looked up.
+//! A second list of a chart's routes, from documents 01 and 02. Each way of walking on is put on a
+//! pile until none is left; those that came to the end are sorted, and what is next is looked up.
 
-use crate::chart::{self, Field, StationBytes, LINK, QUESTION};
+use crate::chart::{self, Field, StationBytes, QUESTION};
 use crate::door::{Expected, Given};
 use std::collections::BTreeMap;
 
@@ -62,10 +62,15 @@ fn walk(fields: &[Field], most: usize) -> Option<Vec<Route>> {
     let question = fields.iter().find(|field| field.tag == QUESTION).expect("a question");
     let asked: Vec<StationBytes> = question.stations().collect();
     let mut ways: BTreeMap<StationBytes, Vec<(u8, StationBytes)>> = BTreeMap::new();
-    for (place, link) in fields.iter().filter(|field| field.tag == LINK).enumerate() {
+    for (place, link) in fields.iter().filter(|field| field.is_link()).enumerate() {
         if link.body[8] == 1 {
             let stations: Vec<StationBytes> = link.stations().collect();
-            for (near, far) in [(0, 1), (1, 0)] {
+            let passed: &[(usize, usize)] = match link.direction() {
+                0 => &[(0, 1), (1, 0)],
+                1 => &[(0, 1)],
+                _ => &[(1, 0)],
+            };
+            for &(near, far) in passed {
                 let onward = ways.entry(stations[near]).or_default();
                 onward.push((place as u8, stations[far]));
             }

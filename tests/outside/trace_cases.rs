@@ -1,7 +1,7 @@
 //! Charts whose routes are known beforehand; junk in the place of a route, the order of the
 //! refusals, and every way of switching the links of S on and off.
 
-use crate::chart_cases::{largest, S};
+use crate::chart_cases::{largest, DIRECTIONS, ONE_WAY, S};
 use crate::chart_draft::{Draft, Station};
 use crate::door::{self, Expected, Given};
 use crate::draw::Draw;
@@ -17,6 +17,7 @@ pub const GROUPS: &[Tests] = &[
     ("trace junk", junk),
     ("trace order", order),
     ("trace switches", switches),
+    ("trace directions", directions),
 ];
 
 // More than any chart here has.
@@ -95,6 +96,27 @@ fn stories(group: &mut Group, _: &mut Draw) -> Outcome {
     draft.links[1].on = 0;
     let calls = [(None, Err(43)), (Some(&[][..]), Err(41)), (Some(&[0, 2]), Err(41))];
     story(group, "P5", &draft.lay(), &calls)?;
+    // Link 0 out and link 4 back: the second route of S is lost, and asked back one is left.
+    story(
+        group,
+        "one way",
+        &ONE_WAY,
+        &[
+            (None, route(&[0, 2])),
+            (Some(&[0, 2]), route(&[1, 3])),
+            (Some(&[1, 3]), route(&[1, 4, 2])),
+            (Some(&[1, 4, 2]), Err(43)),
+            (Some(&[0, 4, 3]), Err(41)),
+        ],
+    )?;
+    let mut draft = Draft::s().direct(&DIRECTIONS);
+    [draft.from, draft.to] = [draft.to, draft.from];
+    story(
+        group,
+        "one way, asked back",
+        &draft.lay(),
+        &[(None, route(&[3, 1])), (Some(&[3, 1]), Err(43)), (Some(&[2, 0]), Err(41))],
+    )?;
     // Found by its label, 9/21 would be 9/20.
     let mut draft = Draft::s();
     draft.to = (9, 21);
@@ -324,6 +346,29 @@ fn switches(group: &mut Group, _: &mut Draw) -> Outcome {
                 let chart = draft.lay();
                 let routes = routes_of(&chart);
                 walk_through(group, "switches", &chart, &routes, vec![0xee; 17], 9)?;
+            }
+        }
+    }
+    Ok(())
+}
+
+// ---- directions ----
+
+// Every choice of a direction for the links of S, from each node to each.
+fn directions(group: &mut Group, _: &mut Draw) -> Outcome {
+    let stations: Vec<Station> = Draft::s().nodes.iter().map(|node| node.station).collect();
+    for chosen in 0..3usize.pow(6) {
+        let mut draft = Draft::s().directed();
+        for (place, link) in draft.links.iter_mut().enumerate() {
+            link.on = 1;
+            link.direction = chosen / 3usize.pow(place as u32) % 3;
+        }
+        for from in &stations {
+            for to in &stations {
+                [draft.from, draft.to] = [*from, *to];
+                let chart = draft.lay();
+                let routes = routes_of(&chart);
+                walk_through(group, "directions", &chart, &routes, vec![0xee; 17], 9)?;
             }
         }
     }

@@ -1,8 +1,9 @@
 //! Drawn charts of up to 16 nodes, thinned out until their routes are few: all of them walked
 //! through, then junk, short buffers and damaged charts.
 
+use crate::chart::LINK;
 use crate::chart_draft::{Draft, Station};
-use crate::chart_draws::{damage, draw_link, draw_link_between, draw_nodes};
+use crate::chart_draws::{damage, draw_form, draw_link, draw_link_between, draw_nodes};
 use crate::draw::Draw;
 use crate::group::{Group, Outcome, Tally, Tests};
 use crate::trace::{Routes, MOST_STEPS};
@@ -10,7 +11,7 @@ use crate::trace_call::{try_first, try_next, walk_through};
 
 pub const GROUPS: &[Tests] = &[("trace draws", draws)];
 
-const DRAWN: usize = 6_000;
+const DRAWN: usize = 8_000;
 const JUNK: usize = 3;
 
 // Beginnings of routes, which bound the routes and the dead ends alike.
@@ -97,7 +98,7 @@ pub fn draw_net(draw: &mut Draw) -> Draft {
     let many = draw.within(12, 16);
     let count = draw.one_of(&[any, any, many, 16]);
     let nodes = draw_nodes(draw, count);
-    let mut draft = Draft { nodes, links: Vec::new(), from: (0, 0), to: (0, 0) };
+    let mut draft = Draft { nodes, links: Vec::new(), form: LINK, from: (0, 0), to: (0, 0) };
     draw.one_of(&SHAPES)(draw, &mut draft);
     let stations: Vec<Station> = draft.nodes.iter().map(|node| node.station).collect();
     let last = stations.len() - 1;
@@ -114,6 +115,7 @@ pub fn draw_net(draw: &mut Draw) -> Draft {
             link.ends.reverse();
         }
     }
+    draw_form(draw, &mut draft);
     draft
 }
 

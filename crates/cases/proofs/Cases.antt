@@ -23,20 +23,20 @@ use Rattle.ledger_answer.specs.Answer.{standingFor, settled, waits, answered, w
 use Rattle.ledger_tick.specs.Tick.{timesOut, tickedLeg, tickedLedger, tickRefusal, tickOf}
 use Rattle.ledger_clear.specs.Clear.{closeUp, settledAt, clearRefusal, clearOf}
 use Rattle.ledger_laws.specs.Calls.{refusalOf, after}
-use Rattle.chart.specs.Values.{noChart, nodeAt, linkAt, strayByte, nodeInRange, endInRange, linkInRange, standsAt, hasNode, endsAt, hasEnd}
+use Rattle.chart.specs.Values.{noChart, nodeAt, linkAt, strayByte, nodeInRange, endInRange, directionInRange, linkInRange, standsAt, hasNode, endsAt, hasEnd}
 use Rattle.chart.specs.Refusals.{nodeRefusalBy, linkRefusalBy, questionRefusalBy, nodeRefusal, linkRefusal, questionRefusal}
-use Rattle.chart.specs.Sample.{S, bytesS}
-use Rattle.chart_read.specs.Fields.{bytesFrom, nodeIn, linkIn}
-use Rattle.chart_read.specs.Reading.{nothing, withNode, withLink, withQuestion, withBody, nodeLate, refusing, nodeBodyRefusal, linkBodyRefusal, questionBodyRefusal, bodyRefusal, fieldRefusal, walk, readChartOf}
+use Rattle.chart.specs.Sample.{S, bytesS, S', bytesS'}
+use Rattle.chart_read.specs.Fields.{isForm, linkLength, bytesFrom, nodeIn, linkIn}
+use Rattle.chart_read.specs.Reading.{nothing, withNode, withLink, withQuestion, withBody, nodeLate, mixes, linkLate, linkAfter, refusing, nodeBodyRefusal, linkBodyRefusal, questionBodyRefusal, bodyRefusal, fieldRefusal, walk, readChartOf}
 use Rattle.chart_refuse.specs.Refusal.{nodeRefusalAt, linkRefusalAt, chartValuesRefusal, chartRefusal}
-use Rattle.chart_write.specs.Writing.{linkBody}
+use Rattle.chart_write.specs.Writing.{directionBytes, linkBody}
 use Rattle.chart_image.specs.Image.{nodeImage, chartImage}
 use Rattle.chart_image.specs.Cases.{imageS}
-use Rattle.chart_door.specs.Calls.{pzChartReadRefusal, pzChartReadImage}
+use Rattle.chart_read_door.specs.Calls.{pzChartReadRefusal, pzChartReadImage}
 use Rattle.route.specs.Route.{also, only}
 use Rattle.route.specs.All.{upFrom, linksFrom, over, tries, routes, unmet, allFrom, allRoutes, firstOf, sameLinks, nextOf}
 use Rattle.route_search.specs.Answers.{findingRefusal, findingRoute, told, firstRefusal, nextRefusal}
-use Rattle.chart_net.specs.Net.{stationPlace, farEnd, chartNet, start, routesOf, routesBetween}
+use Rattle.chart_net.specs.Net.{stationPlace, goesOut, goesBack, farEnd, chartNet, start, routesOf, routesBetween}
 use Rattle.route_trace.specs.Trace.{firstRefusalOf, nextRefusalOf, traceFirst, traceNext}
 use Rattle.route_door.specs.Routes.{ifRead, pzFirst, pzNext}
 use Rattle.cases.specs.Questions.{Back, listFrom, returnedBy, afterAll, numbersFrom, answerTo}
@@ -61,12 +61,12 @@ each (k ∷ ks) e c m = go (each ks (tail-eq-of-cons-eq e) c) (List·Memᴰ·cas
 
 -- they agree on the table
 computed : back table ≡ meant table
-unfolding readChartOf walk unlessRefused nothing noChart fieldRefusal bodyRefusal refusing nodeBodyRefusal linkBodyRefusal questionBodyRefusal nodeLate nodeIn linkIn bytesFrom withBody withNode withLink withQuestion nodeRefusalBy linkRefusalBy questionRefusalBy nodeRefusal linkRefusal questionRefusal nodeInRange linkInRange endInRange stationInRange inRange sameStation sameAddress hasNode hasEnd standsAt endsAt nodeAt linkAt strayByte anyBelow firstBelow firstFrom elementAt firsts row also only upFrom linksFrom over tries routes unmet allFrom allRoutes sameLinks stationPlace farEnd chartNet start routesOf routesBetween chartRefusal chartValuesRefusal firstRefusalBelow nodeRefusalAt linkRefusalAt firstOf nextOf answerRefusal findingRoute findingRefusal told firstRefusal nextRefusal firstRefusalOf nextRefusalOf traceFirst traceNext entryAt isOwn covers qualifies qualifiesAt hasRoute outPort outChoice targetInRange entryInRange strayEntry tableInRange callInRange chooseOf sameAt repeatAt repeats howMany legAt isOpen isOpenLeg alike ticksObey legObeys brokenAt obeys standingFor settled waits answered withLeg answeredAt answeredPlace answerOf timesOut tickedLeg tickedLedger tickRefusal tickOf closeUp settledAt clearRefusal clearOf refusalOf after S bytesS T two one fireBody fireFrame fireFields toHill fireLegs lengthOf countOf fieldsOf destinationAt xorFrom outside strayAt outOfRange wrongVersion wholeRefusal valuesRefusalBy frameRefusal readFrameOf contentsOf destinationsOf joined frameHead frameMid frameBody frameBytes isOpenFrom isOpenFromAt legsRefusal callRefusal acceptRefusal legFor legForAt withLegs acceptOf ifRead pzFirst pzNext numbersFrom imageS upTo nodeImage linkBody chartImage pzChartReadRefusal pzChartReadImage listFrom returnedBy afterAll answerTo table
+unfolding readChartOf walk unlessRefused nothing noChart fieldRefusal bodyRefusal refusing nodeBodyRefusal linkBodyRefusal questionBodyRefusal nodeLate mixes linkLate linkAfter isForm linkLength nodeIn linkIn bytesFrom withBody withNode withLink withQuestion nodeRefusalBy linkRefusalBy questionRefusalBy nodeRefusal linkRefusal questionRefusal nodeInRange directionInRange linkInRange endInRange stationInRange inRange sameStation sameAddress hasNode hasEnd standsAt endsAt nodeAt linkAt strayByte anyBelow firstBelow firstFrom elementAt firsts row also only upFrom linksFrom over tries routes unmet allFrom allRoutes sameLinks stationPlace goesOut goesBack farEnd chartNet start routesOf routesBetween chartRefusal chartValuesRefusal firstRefusalBelow nodeRefusalAt linkRefusalAt firstOf nextOf answerRefusal findingRoute findingRefusal told firstRefusal nextRefusal firstRefusalOf nextRefusalOf traceFirst traceNext entryAt isOwn covers qualifies qualifiesAt hasRoute outPort outChoice targetInRange entryInRange strayEntry tableInRange callInRange chooseOf sameAt repeatAt repeats howMany legAt isOpen isOpenLeg alike ticksObey legObeys brokenAt obeys standingFor settled waits answered withLeg answeredAt answeredPlace answerOf timesOut tickedLeg tickedLedger tickRefusal tickOf closeUp settledAt clearRefusal clearOf refusalOf after S bytesS S' bytesS' T two one fireBody fireFrame fireFields toHill fireLegs lengthOf countOf fieldsOf destinationAt xorFrom outside strayAt outOfRange wrongVersion wholeRefusal valuesRefusalBy frameRefusal readFrameOf contentsOf destinationsOf joined frameHead frameMid frameBody frameBytes isOpenFrom isOpenFromAt legsRefusal callRefusal acceptRefusal legFor legForAt withLegs acceptOf ifRead pzFirst pzNext numbersFrom imageS upTo nodeImage directionBytes linkBody chartImage pzChartReadRefusal pzChartReadImage listFrom returnedBy afterAll answerTo table
 computed = refl
 
 pub all-hold : AllHold
 all-hold = each table computed
 
 pub slipped : Slipped
-unfolding readChartOf walk unlessRefused nothing noChart fieldRefusal bodyRefusal refusing nodeBodyRefusal linkBodyRefusal questionBodyRefusal nodeLate nodeIn linkIn bytesFrom withBody withNode withLink withQuestion nodeRefusalBy linkRefusalBy questionRefusalBy nodeRefusal linkRefusal questionRefusal nodeInRange linkInRange endInRange stationInRange inRange sameStation sameAddress hasNode hasEnd standsAt endsAt nodeAt linkAt strayByte anyBelow firstBelow firstFrom elementAt firsts row also only upFrom linksFrom over tries routes unmet allFrom allRoutes sameLinks stationPlace farEnd chartNet start routesOf routesBetween bytesS
+unfolding readChartOf walk unlessRefused nothing noChart fieldRefusal bodyRefusal refusing nodeBodyRefusal linkBodyRefusal questionBodyRefusal nodeLate mixes linkLate linkAfter isForm linkLength nodeIn linkIn bytesFrom withBody withNode withLink withQuestion nodeRefusalBy linkRefusalBy questionRefusalBy nodeRefusal linkRefusal questionRefusal nodeInRange directionInRange linkInRange endInRange stationInRange inRange sameStation sameAddress hasNode hasEnd standsAt endsAt nodeAt linkAt strayByte anyBelow firstBelow firstFrom elementAt firsts row also only upFrom linksFrom over tries routes unmet allFrom allRoutes sameLinks stationPlace goesOut goesBack farEnd chartNet start routesOf routesBetween bytesS
 slipped = record { right = refl; wrong = refl }

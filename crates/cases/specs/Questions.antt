@@ -23,7 +23,7 @@ use Rattle.ledger_laws.specs.Calls.{Call, accepting, answering, ticking, cleari
 use Rattle.chart.specs.declared.Chart.{Chart}
 use Rattle.chart_read.specs.declared.ChartRead.{ChartRead}
 use Rattle.chart_read.specs.Reading.{readChartOf}
-use Rattle.chart_door.specs.Calls.{pzChartReadImage}
+use Rattle.chart_read_door.specs.Calls.{pzChartReadImage}
 use Rattle.route_search.specs.declared.Traced.{Traced}
 use Rattle.route_search.specs.declared.Traced.the-variants.{Route, Refused}
 use Rattle.route_search.specs.Answers.{Told}
@@ -153,5 +153,5 @@ answerTo (choosing t d arrival) = chosen (chooseOf t d arrival)
 answerTo (calling l cs) = called (returnedBy l cs) (afterAll l cs)
 answerTo (opening f) = opened (readFrameOf f) (destinationsIn f) (contentsOf f)
 answerTo (sending e d l) = sent (frameBytes e (elementAt zeroAddress d) l)
-answerTo (imaging bytes) = imaged (pzChartReadImage bytes (replicate 888 0))
+answerTo (imaging bytes) = imaged (pzChartReadImage bytes (replicate 937 0))
 answerTo (tracing bytes) = numbered (numbersFrom 20 bytes (pzFirstNumber bytes (lent [])) (pzFirstBuffer bytes (lent [])))

@@ -12,12 +12,12 @@ use Rattle.ledger.specs.Cases.{leg, ledger, two, one}
 use Rattle.ledger_accept.specs.Cases.{toHill, fireLegs}
 use Rattle.ledger_answer.specs.declared.Reply.the-variants.{Ack, Nak}
 use Rattle.ledger_laws.specs.Calls.{Call, accepting, answering, ticking, clearing}
-use Rattle.chart.specs.Sample.{S, bytesS}
+use Rattle.chart.specs.Sample.{S, bytesS, S', bytesS'}
 use Rattle.chart_read.specs.Reading.{refusedAt}
 use Rattle.chart_image.specs.Cases.{imageS}
 use Rattle.route_search.specs.declared.Traced.the-variants.{Refused as NoRoute}
 use Rattle.cases.specs.Questions.{Asked, reading, listing, following, choosing, calling, opening, sending, imaging, tracing, Returned, Back, read, listed, told, chosen, called, opened, sent, imaged, numbered, lent, answerTo}
-use Rattle.cases.specs.Values.{port, seq, at, off, to}
+use Rattle.cases.specs.Values.{port, seq, at, off, way, to}
 
 -- what is asked, and what must come back
 pub record Case : Type 0 where
@@ -90,6 +90,12 @@ table =
     ∷ (calling (one 3 Open) (wait ∷ clearing 0 ∷ []) ⟶ called (returns 0 0 ∷ returns 65 0 ∷ []) (one 3 Waiting))
     -- a NAK with its set and its code
     ∷ (calling (two 3 Open) (answering (at 9 20 1) (at 9 2 5) (seq 7) (Nak 2 9) ∷ []) ⟶ called (returns 0 0 ∷ []) (two 0 (Refused 2 9)))
+    -- S in the directed form has the same routes; link 4 back loses one, link 0 back two; direction 3 is out of range
+    ∷ (reading bytesS' ⟶ read (record { refusal = 0; place = 0; chart = S' }))
+    ∷ (listing bytesS' ⟶ listed ((0 ∷ 2 ∷ []) ∷ (0 ∷ 4 ∷ 3 ∷ []) ∷ (1 ∷ 3 ∷ []) ∷ (1 ∷ 4 ∷ 2 ∷ []) ∷ []) 43)
+    ∷ (listing (way 4 2 bytesS') ⟶ listed ((0 ∷ 2 ∷ []) ∷ (1 ∷ 3 ∷ []) ∷ (1 ∷ 4 ∷ 2 ∷ []) ∷ []) 43)
+    ∷ (listing (way 0 2 bytesS') ⟶ listed ((1 ∷ 3 ∷ []) ∷ (1 ∷ 4 ∷ 2 ∷ []) ∷ []) 43)
+    ∷ (reading (way 0 3 bytesS') ⟶ read (refusedAt 24 43))
     -- the image of S
     ∷ (imaging bytesS ⟶ imaged imageS)
     -- the routes of S through C: their lengths, and 43

@@ -23,6 +23,10 @@ at b n p = record { brigade = b; node = record { 0 = n }; port = port p }
 abbrev pub off : ℕ → List ℕ → List ℕ
 off i bytes = set bytes (43 + 12 * i + 11) 0
 
+-- a directed link's direction, its last byte: its field has 13
+abbrev pub way : ℕ → ℕ → List ℕ → List ℕ
+way i d bytes = set bytes (43 + 13 * i + 12) d
+
 -- another node of brigade 9 in the question's second half, the last byte of the 124
 abbrev pub to : ℕ → List ℕ → List ℕ
 to n bytes = set bytes 123 n

@@ -52,8 +52,8 @@ node-passed late ns n e =
     }
 
 -- a link that is let pass
-pub record LinkPassed (late : Bool) (ns : Nodes) (ls : Links) (l : Link) : Type 0 where
-  pub ranged : linkInRange l ≡ true
+pub record LinkPassed (late : Bool) (form : ℕ) (ns : Nodes) (ls : Links) (l : Link) : Type 0 where
+  pub ranged : linkInRange form l ≡ true
   pub timely : late ≡ false
   pub few : ns .count ≤ 16
   pub room : ls .count < 48
@@ -61,17 +61,17 @@ pub record LinkPassed (late : Bool) (ns : Nodes) (ls : Links) (l : Link) : Type 
   pub apart : sameStation (stationOf (l .a)) (stationOf (l .b)) ≡ false
   pub fresh : (hasEnd ls (l .a) || hasEnd ls (l .b)) ≡ false
 
-pub link-passed : (late : Bool) (ns : Nodes) (ls : Links) (l : Link) → linkRefusal late ns ls l ≡ 0 → LinkPassed late ns ls l
+pub link-passed : (late : Bool) (form : ℕ) (ns : Nodes) (ls : Links) (l : Link) → linkRefusal late form ns ls l ≡ 0 → LinkPassed late form ns ls l
 unfolding linkRefusal linkRefusalBy
-link-passed late ns ls l e =
-    let p = pass 23 (not (linkInRange l)) _ e in
+link-passed late form ns ls l e =
+    let p = pass 23 (not (linkInRange form l)) _ e in
     let q = pass 24 late _ (p .1) in
     let r = pass 25 (ltb 16 (ns .count)) _ (q .1) in
     let t = pass 25 (leb 48 (ls .count)) _ (r .1) in
     let u = pass 27 (not (hasNode ns (stationOf (l .a)) && hasNode ns (stationOf (l .b)))) _ (t .1) in
     let v = pass 28 (sameStation (stationOf (l .a)) (stationOf (l .b))) _ (u .1) in
     record {
-      ranged = not-false (linkInRange l) (p .0);
+      ranged = not-false (linkInRange form l) (p .0);
       timely = q .0;
       few = ltb-false 16 (ns .count) (r .0);
       room = leb-false 48 (ls .count) (t .0);

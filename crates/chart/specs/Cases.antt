@@ -1,4 +1,4 @@
--- Each number of a node, a link and a question after those of S, by example (document 01, "The chart").
+-- Each number of a node, a link and a question after those of S, by example (document 01, "The chart"; document 02, Five).
 use Prim.Native.Nat.{ℕ, _-_}
 use mathlib.Core.Path.{_≡_, refl}
 use mathlib.Core.Bool.{Bool, true, false}
@@ -8,23 +8,27 @@ use Rattle.lists.specs.Places.{anyBelow, elementAt}
 use Rattle.address.specs.Address.{stationInRange, inRange, sameStation, sameAddress}
 use Rattle.chart.specs.declared.Nodes.{Nodes}
 use Rattle.chart.specs.declared.Links.{Links}
-use Rattle.chart.specs.Values.{nodeAt, linkAt, strayByte, nodeInRange, endInRange, linkInRange, standsAt, hasNode, endsAt, hasEnd}
+use Rattle.chart.specs.Values.{nodeAt, linkAt, strayByte, nodeInRange, endInRange, directionInRange, linkInRange, standsAt, hasNode, endsAt, hasEnd}
 use Rattle.chart.specs.Refusals.{nodeRefusalBy, linkRefusalBy, questionRefusalBy, nodeRefusal, linkRefusal, questionRefusal}
-use Rattle.chart.specs.Sample.{stationS, nodeS, linkS, hill, S}
+use Rattle.chart.specs.Sample.{stationS, nodeS, wayS, linkS, hill, S}
 
 -- after the nodes and links of S
 abbrev pub nodeAfterS : Bool → ℕ → List ℕ → ℕ
 nodeAfterS late n label = nodeRefusal late (S .nodes) (nodeS n label)
 
 abbrev pub linkAfterS : Bool → ℕ → ℕ → ℕ → ℕ → ℕ
-linkAfterS late a p b q = linkRefusal late (S .nodes) (S .links) (linkS a p b q true)
+linkAfterS late a p b q = linkRefusal late 2 (S .nodes) (S .links) (linkS a p b q true)
+
+-- a link that could come next, of a form and with a direction
+abbrev pub wayAfterS : Bool → ℕ → ℕ → ℕ
+wayAfterS late form direction = linkRefusal late form (S .nodes) (S .links) (wayS 1 5 20 4 true direction)
 
 -- so many nodes at one station, so many links with the same ends
 abbrev pub crowd : ℕ → Nodes
 crowd n = record { count = n; items = replicate 16 (nodeS 1 []) }
 
 abbrev pub bundle : ℕ → Links
-bundle n = record { count = n; items = replicate 48 (linkS 1 2 20 1 true) }
+bundle n = record { count = n; form = 2; items = replicate 48 (linkS 1 2 20 1 true) }
 
 pub record Cases : Type 0 where
   -- a node: 23 to 27
@@ -44,9 +48,17 @@ pub record Cases : Type 0 where
   pub port-0 : linkAfterS true 1 0 20 4 ≡ 24
   pub port-64 : linkAfterS true 1 5 20 64 ≡ 24
   pub port-63 : linkAfterS false 1 63 20 63 ≡ 0
+  -- a direction: 0 beside the plain form, 0 to 2 beside the directed one, none beside another
+  pub plain-both : wayAfterS false 2 0 ≡ 0
+  pub plain-out : wayAfterS true 2 1 ≡ 24
+  pub directed-both : wayAfterS false 4 0 ≡ 0
+  pub directed-out : wayAfterS false 4 1 ≡ 0
+  pub directed-back : wayAfterS false 4 2 ≡ 0
+  pub direction-3 : wayAfterS true 4 3 ≡ 24
+  pub form-3 : wayAfterS true 3 0 ≡ 24
   pub link-late : linkAfterS true 1 5 99 4 ≡ 25
-  pub forty-ninth : linkRefusal false (S .nodes) (bundle 48) (linkS 99 5 99 4 true) ≡ 26
-  pub forty-eighth : linkRefusal false (S .nodes) (bundle 47) (linkS 1 5 20 4 true) ≡ 0
+  pub forty-ninth : linkRefusal false 2 (S .nodes) (bundle 48) (linkS 99 5 99 4 true) ≡ 26
+  pub forty-eighth : linkRefusal false 2 (S .nodes) (bundle 47) (linkS 1 5 20 4 true) ≡ 0
   pub nowhere : linkAfterS false 99 5 99 4 ≡ 28
   pub from-nowhere : linkAfterS false 99 5 20 4 ≡ 28
   pub itself : linkAfterS false 1 2 1 3 ≡ 29
@@ -61,7 +73,7 @@ pub record Cases : Type 0 where
   pub asked-from-nowhere : questionRefusal false (S .nodes) (stationS 99) (stationS 1) ≡ 28
 
 pub cases : Cases
-unfolding S anyBelow elementAt stationInRange inRange sameStation sameAddress nodeAt linkAt strayByte nodeInRange endInRange linkInRange standsAt hasNode endsAt hasEnd nodeRefusalBy linkRefusalBy questionRefusalBy nodeRefusal linkRefusal questionRefusal
+unfolding S anyBelow elementAt stationInRange inRange sameStation sameAddress nodeAt linkAt strayByte nodeInRange endInRange directionInRange linkInRange standsAt hasNode endsAt hasEnd nodeRefusalBy linkRefusalBy questionRefusalBy nodeRefusal linkRefusal questionRefusal
 cases =
     record {
       node = refl;
@@ -79,6 +91,13 @@ cases =
       port-0 = refl;
       port-64 = refl;
       port-63 = refl;
+      plain-both = refl;
+      plain-out = refl;
+      directed-both = refl;
+      directed-out = refl;
+      directed-back = refl;
+      direction-3 = refl;
+      form-3 = refl;
       link-late = refl;
       forty-ninth = refl;
       forty-eighth = refl;

@@ -1,4 +1,5 @@
--- The numbers 23 to 30 of one value, after the nodes and links before it: the lowest that applies, 0 where none does (document 01, "The chart").
+-- The numbers 23 to 30 of one value, after the nodes and links before it: the lowest that applies, 0 where none does (document 01, "The chart"; document 02,
+-- Five).
 use Prim.Native.Nat.{ℕ}
 use mathlib.Core.Bool.{Bool, not, _&&_, _||_}
 use lib.Dec.{ltb, leb}
@@ -22,11 +23,11 @@ nodeRefusalBy late nodes known n =
     (refuse 26 (leb mostNodes nodes)
     (refuse 27 (known (n .station)) 0))))
 
--- a link's number after so many nodes and links, whose ends are taken: 24 a value out of range, 25 it comes too late, 26 the links are 48 already (or the nodes
--- too many), 28 an end at no node, 29 both ends at one node, 30 an end that an earlier link has
-unfoldable pub linkRefusalBy : Bool → ℕ → ℕ → (Station → Bool) → (Address → Bool) → Link → ℕ
-linkRefusalBy late nodes links known taken l =
-    refuse 24 (not (linkInRange l))
+-- the number of a link of this form after so many nodes and links, whose ends are taken: 24 a value out of range, 25 it comes too late, 26 the links are 48
+-- already (or the nodes too many), 28 an end at no node, 29 both ends at one node, 30 an end that an earlier link has
+unfoldable pub linkRefusalBy : Bool → ℕ → ℕ → ℕ → (Station → Bool) → (Address → Bool) → Link → ℕ
+linkRefusalBy late form nodes links known taken l =
+    refuse 24 (not (linkInRange form l))
     (refuse 25 late
     (refuse 26 (ltb mostNodes nodes)
     (refuse 26 (leb mostLinks links)
@@ -46,8 +47,8 @@ questionRefusalBy late nodes known from to =
 unfoldable pub nodeRefusal : Bool → Nodes → ChartNode → ℕ
 nodeRefusal late ns n = nodeRefusalBy late (ns .count) (hasNode ns) n
 
-unfoldable pub linkRefusal : Bool → Nodes → Links → Link → ℕ
-linkRefusal late ns ls l = linkRefusalBy late (ns .count) (ls .count) (hasNode ns) (hasEnd ls) l
+unfoldable pub linkRefusal : Bool → ℕ → Nodes → Links → Link → ℕ
+linkRefusal late form ns ls l = linkRefusalBy late form (ns .count) (ls .count) (hasNode ns) (hasEnd ls) l
 
 unfoldable pub questionRefusal : Bool → Nodes → Station → Station → ℕ
 questionRefusal late ns from to = questionRefusalBy late (ns .count) (hasNode ns) from to

@@ -1,9 +1,9 @@
--- The chart as values (document 01, "The chart"): which values are in range, which nodes are written and which ends are used.
+-- The chart as values (document 01, "The chart"; document 02, Five): which values are in range, which nodes are written and which ends are used.
 use Prim.Native.Nat.{ℕ}
 use mathlib.Core.List.{List}
-use mathlib.Core.Bool.{Bool, false, not, _&&_, _||_}
+use mathlib.Core.Bool.{Bool, false, not, _&&_, _||_, cond}
 use lib.ListN.{getD, replicate}
-use lib.Dec.{ltb, leb}
+use lib.Dec.{eqb, ltb, leb}
 use Rattle.lists.specs.Places.{anyBelow, elementAt}
 use Rattle.address.specs.declared.Station.{Station}
 use Rattle.address.specs.declared.Address.{Address}
@@ -30,6 +30,23 @@ lowestByte = 32
 abbrev pub highestByte : ℕ
 highestByte = 126
 
+-- the forms of links: the tag that they are written with
+abbrev pub plain : ℕ
+plain = 2
+
+abbrev pub directed : ℕ
+directed = 4
+
+-- the directions of a link: both ways, out from its first end to its second, back from its second to its first
+abbrev pub bothWays : ℕ
+bothWays = 0
+
+abbrev pub outOnly : ℕ
+outOnly = 1
+
+abbrev pub backOnly : ℕ
+backOnly = 2
+
 -- what stands at an unused place: every number 0
 abbrev pub noStation : Station
 noStation = stationOf zeroAddress
@@ -38,14 +55,18 @@ abbrev pub noNode : ChartNode
 noNode = record { station = noStation; length = 0; label = replicate 24 0 }
 
 abbrev pub noLink : Link
-noLink = record { a = zeroAddress; b = zeroAddress; on = false }
+noLink = record { a = zeroAddress; b = zeroAddress; on = false; direction = bothWays }
 
--- the chart that stands beside a refusal: every number 0
+-- no links are of the plain form
+abbrev pub noLinks : Links
+noLinks = record { count = 0; form = plain; items = replicate 48 noLink }
+
+-- the chart that stands beside a refusal: no nodes, no links, every number 0
 unfoldable pub noChart : Chart
 noChart =
     record {
       nodes = record { count = 0; items = replicate 16 noNode };
-      links = record { count = 0; items = replicate 48 noLink };
+      links = noLinks;
       from = noStation;
       to = noStation;
     }
@@ -71,9 +92,13 @@ nodeInRange n = stationInRange (n .station) && not (anyBelow (strayByte (n .labe
 unfoldable pub endInRange : Address → Bool
 endInRange e = leb 1 (e .port .0) && inRange e
 
--- both ends are in range
-unfoldable pub linkInRange : Link → Bool
-linkInRange l = endInRange (l .a) && endInRange (l .b)
+-- a plain link goes both ways, a directed one in any of the three directions; no other form has a direction
+unfoldable pub directionInRange : ℕ → ℕ → Bool
+directionInRange form d = cond (eqb form plain) (eqb d bothWays) (eqb form directed && leb d backOnly)
+
+-- both ends of a link are in range, and so is its direction
+unfoldable pub linkInRange : ℕ → Link → Bool
+linkInRange form l = endInRange (l .a) && endInRange (l .b) && directionInRange form (l .direction)
 
 -- ---- what is written
 

@@ -1,4 +1,4 @@
-// The chart as values (document 01, "The chart"): its nodes, its links and its question.
+// The chart as values (document 01, "The chart"; document 02, Five): its nodes, its links and its question.
 use address::Address;
 use address::Node;
 use address::Port;
@@ -12,6 +12,18 @@ pub const MOST_LINKS: u8 = 48;
 
 pub const LONGEST_LABEL: u8 = 24;
 
+// The forms of links: the tag that they are written with.
+pub const PLAIN: u8 = 2;
+
+pub const DIRECTED: u8 = 4;
+
+// The directions of a link: both ways, out from its first end to its second, back from its second to its first.
+pub const BOTH_WAYS: u8 = 0;
+
+pub const OUT_ONLY: u8 = 1;
+
+pub const BACK_ONLY: u8 = 2;
+
 // A node: its station, and the first `length` bytes of its label. No rule depends on labels.
 pub struct ChartNode {
     pub station: Station,
@@ -19,11 +31,12 @@ pub struct ChartNode {
     pub label: [u8; 24],
 }
 
-// A link between two ends, on or off.
+// A link between two ends, on or off, and its direction.
 pub struct Link {
     pub a: Address,
     pub b: Address,
     pub on: bool,
+    pub direction: u8,
 }
 
 // The first `count` items are nodes, the others unused.
@@ -32,9 +45,10 @@ pub struct Nodes {
     pub items: [ChartNode; 16],
 }
 
-// The first `count` items are links, the others unused.
+// The first `count` items are links, the others unused; all are written in one form.
 pub struct Links {
     pub count: u8,
+    pub form: u8,
     pub items: [Link; 48],
 }
 
@@ -61,7 +75,7 @@ pub fn no_node() -> ChartNode
     }
 }
 
-// What stands at an unused place of links: every number 0, and off.
+// What stands at an unused place of links: every number 0, off.
 pub fn no_link() -> Link
     ensures { λ r. ⌜ r ≡ noLink ⌝ }
 {
@@ -74,10 +88,11 @@ pub fn no_link() -> Link
         a: end,
         b: end,
         on: false,
+        direction: BOTH_WAYS,
     }
 }
 
-// The chart that stands beside a refusal: every number 0.
+// The chart that stands beside a refusal: no nodes, no links, every number 0.
 pub fn no_chart() -> Chart
     ensures { λ r. ⌜ r ≡ noChart ⌝ }
 {
@@ -93,6 +108,7 @@ pub fn no_chart() -> Chart
     };
     let links = Links {
         count: 0,
+        form: PLAIN,
         items: [link; 48],
     };
     Chart {

@@ -12,9 +12,9 @@ use Rattle.lists.proofs.Stores.{sets-append}
 use Rattle.address_bytes.specs.Wide.{stationBytes}
 use Rattle.chart.specs.declared.ChartNode.{ChartNode}
 use Rattle.chart.specs.declared.Chart.{Chart}
-use Rattle.chart.specs.Values.{mostNodes, mostLinks, longestLabel, noNode, noLink, nodeAt, linkAt}
+use Rattle.chart.specs.Values.{mostNodes, mostLinks, longestLabel, directed, noNode, noLink, nodeAt, linkAt}
 use Rattle.chart_write.specs.Writing.{linkBody}
-use Rattle.chart_write.proofs.Laws.{length-link-body}
+use Rattle.chart_write.proofs.Laws.{directed-long}
 use Rattle.chart_image.specs.Image.{nodesStart, nodeSize, linksStart, linkSize, chartImageSize, nodeImage, chartImage}
 
 pub length-node : (n : ChartNode) → length (nodeImage n) ≡ nodeSize
@@ -34,20 +34,20 @@ node-stored b at n h =
 
 -- the five stores that make an image
 pub chart-stored : (b : List ℕ) (c : Chart)
-    → sets (sets (sets (sets (sets b 0 (c .nodes .count ∷ c .links .count ∷ [])) 2 (stationBytes (c .from))) 5 (stationBytes (c .to))) nodesStart (joined nodeImage (upTo (c .nodes .count) noNode (nodeAt (c .nodes))) mostNodes)) linksStart (joined linkBody (upTo (c .links .count) noLink (linkAt (c .links))) mostLinks)
+    → sets (sets (sets (sets (sets b 0 (c .nodes .count ∷ c .links .count ∷ c .links .form ∷ [])) 3 (stationBytes (c .from))) 6 (stationBytes (c .to))) nodesStart (joined nodeImage (upTo (c .nodes .count) noNode (nodeAt (c .nodes))) mostNodes)) linksStart (joined (linkBody directed) (upTo (c .links .count) noLink (linkAt (c .links))) mostLinks)
     ≡ sets b 0 (chartImage c)
 unfolding chartImage
 chart-stored b c =
-    let x = c .nodes .count ∷ c .links .count ∷ [] in
+    let x = c .nodes .count ∷ c .links .count ∷ c .links .form ∷ [] in
     let f = stationBytes (c .from) in
     let t = stationBytes (c .to) in
     let ns = joined nodeImage (upTo (c .nodes .count) noNode (nodeAt (c .nodes))) mostNodes in
-    let ls = joined linkBody (upTo (c .links .count) noLink (linkAt (c .links))) mostLinks in
+    let ls = joined (linkBody directed) (upTo (c .links .count) noLink (linkAt (c .links))) mostLinks in
     let e : linksStart ≡ nodesStart + length ns = rw (length-joined nodeImage nodeSize length-node (upTo (c .nodes .count) noNode (nodeAt (c .nodes))) mostNodes) refl in
-    sets-append ns (sets (sets (sets b 0 x) 2 f) 5 t) nodesStart ls linksStart e
-    ∙ sets-append t (sets (sets b 0 x) 2 f) 5 (ns ++ ls) nodesStart refl
-    ∙ sets-append f (sets b 0 x) 2 (t ++ (ns ++ ls)) 5 refl
-    ∙ sets-append x b 0 (f ++ (t ++ (ns ++ ls))) 2 refl
+    sets-append ns (sets (sets (sets b 0 x) 3 f) 6 t) nodesStart ls linksStart e
+    ∙ sets-append t (sets (sets b 0 x) 3 f) 6 (ns ++ ls) nodesStart refl
+    ∙ sets-append f (sets b 0 x) 3 (t ++ (ns ++ ls)) 6 refl
+    ∙ sets-append x b 0 (f ++ (t ++ (ns ++ ls))) 3 refl
 
 pub image-size : (c : Chart) → length (chartImage c) ≡ chartImageSize
 unfolding chartImage
@@ -55,5 +55,5 @@ image-size c =
     simp length-append (omega (
       arith,
       length-joined nodeImage nodeSize length-node (upTo (c .nodes .count) noNode (nodeAt (c .nodes))) mostNodes,
-      length-joined linkBody linkSize length-link-body (upTo (c .links .count) noLink (linkAt (c .links))) mostLinks,
+      length-joined (linkBody directed) linkSize directed-long (upTo (c .links .count) noLink (linkAt (c .links))) mostLinks,
     ))

@@ -9,7 +9,7 @@ use Rattle.lists.proofs.Places.{row-at, row-agree, length-row}
 use Rattle.chart.specs.declared.ChartNode.{ChartNode}
 use Rattle.chart.specs.declared.Chart.{Chart}
 use Rattle.chart.specs.Values.{mostNodes, mostLinks, longestLabel, noNode, noLink, nodeAt, linkAt}
-use Rattle.chart_write.specs.Writing.{tidyNode, tidyAt, tidy}
+use Rattle.chart_write.specs.Writing.{tidyNode, tidyAt, tidyForm, tidy}
 use Rattle.chart_image.specs.Image.{chartImage, chartIn}
 use Rattle.chart_image.specs.Promises.{usedChart, WholeLabels, ChartUndo}
 use Rattle.chart_image.proofs.Laws.{image-size}
@@ -42,7 +42,7 @@ module _ (c : Chart) (few-nodes : c .nodes .count ≤ mostNodes) (few-links : c 
       let m : min (c .links .count) 48 ≡ c .links .count = omega arith in
       rw (n, m) (λ i. record {
         nodes = record { count = c .nodes .count; items = row-agree 16 noNode (nodeAt (tidy c .nodes)) (tidyAt (c .nodes)) (c .nodes .count) tidy-node i };
-        links = record { count = c .links .count; items = row-agree 48 noLink (linkAt (tidy c .links)) (linkAt (c .links)) (c .links .count) tidy-link i };
+        links = record { count = c .links .count; form = tidyForm (c .links); items = row-agree 48 noLink (linkAt (tidy c .links)) (linkAt (c .links)) (c .links .count) tidy-link i };
         from = c .from;
         to = c .to;
       })

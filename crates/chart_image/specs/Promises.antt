@@ -17,7 +17,7 @@ unfoldable pub usedChart : Chart → Chart
 usedChart c =
     record {
       nodes = record { count = c .nodes .count; items = row mostNodes noNode (nodeAt (c .nodes)) (min (c .nodes .count) mostNodes) };
-      links = record { count = c .links .count; items = row mostLinks noLink (linkAt (c .links)) (min (c .links .count) mostLinks) };
+      links = record { count = c .links .count; form = c .links .form; items = row mostLinks noLink (linkAt (c .links)) (min (c .links .count) mostLinks) };
       from = c .from;
       to = c .to;
     }

@@ -13,7 +13,7 @@ ghost use mathlib.Core.Path.{_≡_};
 ghost use Prim.Native.Nat.{_≤_};
 ghost use lib.Seq.{sets};
 ghost use Rattle.lists.specs.Places.{joined, upTo};
-ghost use Rattle.chart.specs.Values.{mostLinks, mostNodes, noNode, noLink, nodeAt, linkAt};
+ghost use Rattle.chart.specs.Values.{mostLinks, mostNodes, directed, noNode, noLink, nodeAt, linkAt};
 ghost use Rattle.chart_write.specs.Writing.{linkBody};
 ghost use Rattle.chart_image.specs.Image.{chartImageSize, nodesStart, linksStart, nodeImage, chartImage};
 
@@ -46,7 +46,7 @@ fn put_first_nodes(image: &mut [u8], nodes: Nodes, n: usize)
 // The bytes of the first n links.
 fn put_first_links(image: &mut [u8], links: Links, n: usize)
     requires { ⌜ n ≤ mostLinks ⌝ }
-    ensures { λ _. ⌜ now (image .exit) ≡ sets (now (image .entry)) linksStart (joined linkBody (linkAt links) n) ⌝ }
+    ensures { λ _. ⌜ now (image .exit) ≡ sets (now (image .entry)) linksStart (joined (linkBody directed) (linkAt links) n) ⌝ }
 {
     let mut i: usize = 0;
     while i < n {
@@ -72,7 +72,7 @@ fn put_nodes(image: &mut [u8], nodes: Nodes)
 
 // The bytes of all 48 places of links: zeros past the count.
 fn put_links(image: &mut [u8], links: Links)
-    ensures { λ _. ⌜ now (image .exit) ≡ sets (now (image .entry)) linksStart (joined linkBody (upTo (links .count) noLink (linkAt links)) mostLinks) ⌝ }
+    ensures { λ _. ⌜ now (image .exit) ≡ sets (now (image .entry)) linksStart (joined (linkBody directed) (upTo (links .count) noLink (linkAt links)) mostLinks) ⌝ }
 {
     if MOST_LINKS < links.count {
         put_first_links(image, links, 48);
@@ -89,12 +89,12 @@ pub fn put_chart(image: &mut [u8], c: Chart)
 {
     let nodes = c.nodes;
     let links = c.links;
-    let counts = [nodes.count, links.count];
-    buffer::put_all(image, 0, &counts);
+    let head = [nodes.count, links.count, links.form];
+    buffer::put_all(image, 0, &head);
     let from = address_bytes::station_bytes(c.from);
-    buffer::put_all(image, 2, &from);
+    buffer::put_all(image, 3, &from);
     let to = address_bytes::station_bytes(c.to);
-    buffer::put_all(image, 5, &to);
+    buffer::put_all(image, 6, &to);
     put_nodes(image, nodes);
     put_links(image, links);
 }

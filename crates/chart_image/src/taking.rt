@@ -75,10 +75,12 @@ fn link_held(b: &[u8], i: usize) -> Link
     }
     let from = address_bytes::address_in(b, at);
     let to = address_bytes::address_in(b, at + 4);
+    let direction = buffer::byte_at(b, at + 9);
     Link {
         a: from,
         b: to,
         on: on == 1,
+        direction,
     }
 }
 
@@ -113,8 +115,9 @@ pub fn chart_in(b: &[u8]) -> Chart
     let nodes = nodes_held(b, least(n, MOST_NODES) as usize);
     let m = buffer::byte_at(b, 1);
     let links = links_held(b, least(m, MOST_LINKS) as usize);
-    let from = address_bytes::station_in(b, 2);
-    let to = address_bytes::station_in(b, 5);
+    let form = buffer::byte_at(b, 2);
+    let from = address_bytes::station_in(b, 3);
+    let to = address_bytes::station_in(b, 6);
     Chart {
         nodes: Nodes {
             count: n,
@@ -122,6 +125,7 @@ pub fn chart_in(b: &[u8]) -> Chart
         },
         links: Links {
             count: m,
+            form,
             items: links,
         },
         from,

@@ -1,12 +1,12 @@
 -- The arrays that the trace keeps of an accepted chart have the chart's routes: each link leads to the same place in both.
-use Prim.Native.Nat.{ℕ, _+_, _<_, _≤_}
+use Prim.Native.Nat.{ℕ, zero, suc, _+_, _<_, _≤_}
 use mathlib.Core.Path.{_≡_, refl, sym, ap, ap₂, _∙_}
-use mathlib.Core.Bool.{Bool, true, false, cond}
+use mathlib.Core.Bool.{Bool, true, false, cond, _&&_, _||_}
 use mathlib.Core.Option.{none, some, Option·none-ne-some, Option·some-injective}
 use mathlib.Core.List.{List, [], _∷_}
 use native.Mathlib.Omega.{arith}
-use borrow.Author.Tests.{lt-ltb, le-ltb, ltb-true}
-use lib.Dec.{eqb, ltb}
+use borrow.Author.Tests.{lt-ltb, le-ltb, ltb-true, lt-leb, ne-eqb}
+use lib.Dec.{eqb, ltb, leb}
 use lib.ListN.{length, getD, set, replicate}
 use Rattle.lists.specs.Places.{row}
 use Rattle.lists.proofs.Places.{element-own, row-none, row-next, row-at, length-row}
@@ -22,10 +22,10 @@ use Rattle.route.specs.Route.{Net, Sound}
 use Rattle.route.specs.All.{allRoutes}
 use Rattle.route.proofs.SameNet.{Alike, routes-agree}
 use Rattle.route_search.specs.declared.Far.the-variants.{Node, None}
-use Rattle.route_search.specs.Contracts.{nodePlace, otherEnd, farNode, nodeOf, net, routesOver}
+use Rattle.route_search.specs.Contracts.{nodePlace, isOut, isBack, otherEnd, farNode, nodeOf, net, routesOver}
 use Rattle.route_search.proofs.Leading.{far-in, sound}
 use Rattle.chart_refuse.specs.Promises.{Accepted}
-use Rattle.chart_net.specs.Net.{stationPlace, across, placed, farEnd, chartNet, start, routesOf, routesBetween}
+use Rattle.chart_net.specs.Net.{stationPlace, goesOut, goesBack, across, placed, farEnd, chartNet, start, routesOf, routesBetween}
 use Rattle.chart_net.specs.Contracts.{stationPlaceFor, endPlaces, endPlacesAt, passageOf, passageAt, endsFor, passagesFor, arrayRoutes}
 use Rattle.chart_net.proofs.Places.{crossed, place-written, place-few, at-place}
 
@@ -96,13 +96,41 @@ node-there : (m : ℕ) → m < 16 → nodePlace m ≡ Node m
 unfolding nodePlace
 node-there m h = rw (lt-ltb m 16 h)
 
+-- the way of a link is out, and back, where its direction is; above 2 it is neither
+module _ (d : ℕ) (h : 2 < d) where
+  past-out : (eqb d 0 || eqb d 1) ≡ false
+  past-out = rw (ne-eqb d 0 (λ e. omega arith), ne-eqb d 1 (λ e. omega arith))
+
+  past-back : (eqb d 0 || eqb d 2) ≡ false
+  past-back = rw (ne-eqb d 0 (λ e. omega arith), ne-eqb d 2 (λ e. omega arith))
+
+passed-out : (on : Bool) (d : ℕ) → isOut (cond (on && leb d 2) (d + 1) 0) ≡ (on && (eqb d 0 || eqb d 1))
+unfolding isOut
+passed-out false d = refl
+passed-out true zero = refl
+passed-out true (suc zero) = refl
+passed-out true (suc (suc zero)) = refl
+passed-out true (suc (suc (suc d))) = rw (lt-leb (suc (suc (suc d))) 2 (omega arith), past-out (suc (suc (suc d))) (omega arith))
+
+passed-back : (on : Bool) (d : ℕ) → isBack (cond (on && leb d 2) (d + 1) 0) ≡ (on && (eqb d 0 || eqb d 2))
+unfolding isBack
+passed-back false d = refl
+passed-back true zero = refl
+passed-back true (suc zero) = refl
+passed-back true (suc (suc zero)) = refl
+passed-back true (suc (suc (suc d))) = rw (lt-leb (suc (suc (suc d))) 2 (omega arith), past-back (suc (suc (suc d))) (omega arith))
+
 -- a link from a node leads to the same place, whether one goes by stations or by places
-one-link : (ns : Nodes) (l : Link) (x y a : ℕ) → stationPlace ns (stationOf (l .a)) ≡ x → stationPlace ns (stationOf (l .b)) ≡ y → x < 16 → y < 16 → (on p q : Bool)
-    → placed ns (crossed on p q l) ≡ nodeOf (cond (eqb (cond on 1 0) 1) (cond p (nodePlace y) (cond q (nodePlace x) None)) None)
-one-link ns l x y a ex ey hx hy false p q = refl
-one-link ns l x y a ex ey hx hy true true q = rw (node-there y hy) (ap some ey)
-one-link ns l x y a ex ey hx hy true false true = rw (node-there x hx) (ap some ex)
-one-link ns l x y a ex ey hx hy true false false = refl
+one-link : (ns : Nodes) (l : Link) (x y : ℕ) → stationPlace ns (stationOf (l .a)) ≡ x → stationPlace ns (stationOf (l .b)) ≡ y → x < 16 → y < 16
+    → (on out back p q : Bool)
+    → placed ns (crossed on (out && p) (back && q) l) ≡ nodeOf (cond ((on && out) && p) (nodePlace y) (cond ((on && back) && q) (nodePlace x) None))
+one-link ns l x y ex ey hx hy false out back p q = refl
+one-link ns l x y ex ey hx hy true out back p q = go (out && p) (back && q)
+  where
+    go : (o b : Bool) → placed ns (crossed true o b l) ≡ nodeOf (cond o (nodePlace y) (cond b (nodePlace x) None))
+    go true b = rw (node-there y hy) (ap some ey)
+    go false true = rw (node-there x hx) (ap some ex)
+    go false false = refl
 
 module _ (c : Chart) (ok : Accepted c) where
   abbrev ns : Nodes
@@ -116,20 +144,22 @@ module _ (c : Chart) (ok : Accepted c) where
 
   far-same : (i a : ℕ) → i < c .links .count → a < c .nodes .count
       → farEnd (c .nodes) (c .links) i a ≡ nodeOf (farNode (endsFor (c .nodes) (c .links)) (passagesFor (c .links)) (c .links .count) i a)
-  unfolding otherEnd endPlacesAt endPlaces passageAt passageOf
+  unfolding otherEnd endPlacesAt endPlaces passageAt passageOf goesOut goesBack
   far-same i a h k =
       let l = linkAt ls i in
+      let d = l .direction in
       let j = ok .joins i h in
       let x = stationPlace ns (stationOf (l .a)) in
       let y = stationPlace ns (stationOf (l .b)) in
-      let e : farNode (endsFor ns ls) (passagesFor ls) (ls .count) i a ≡ otherEnd (x ∷ y ∷ []) (cond (l .on) 1 0) a =
+      let e : farNode (endsFor ns ls) (passagesFor ls) (ls .count) i a ≡ otherEnd (x ∷ y ∷ []) (passageOf l) a =
       far-in (endsFor ns ls) (passagesFor ls) (ls .count) i a h
       ∙ ap₂ (λ (es : List ℕ) (w : ℕ). otherEnd es w a) (ends-at ns ls i (ok .few-links) h) (way-at ls i (ok .few-links) h)
-      ∙ ap₂ (λ (p q : ℕ). otherEnd (p ∷ q ∷ []) (cond (l .on) 1 0) a) (place-few ns (stationOf (l .a)) (ok .few-nodes)) (place-few ns (stationOf (l .b)) (ok .few-nodes))
+      ∙ ap₂ (λ (p q : ℕ). otherEnd (p ∷ q ∷ []) (passageOf l) a) (place-few ns (stationOf (l .a)) (ok .few-nodes)) (place-few ns (stationOf (l .b)) (ok .few-nodes))
       in
       far-there ns ls i a h
-      ∙ ap₂ (λ (p q : Bool). placed ns (crossed (l .on) p q l)) (at-place ns (ok .once) (stationOf (l .a)) a k) (at-place ns (ok .once) (stationOf (l .b)) a k)
-      ∙ one-link ns l x y a refl refl (below-16 (stationOf (l .a)) (j .a)) (below-16 (stationOf (l .b)) (j .b)) (l .on) (eqb x a) (eqb y a)
+      ∙ ap₂ (λ (p q : Bool). placed ns (crossed (l .on) (goesOut l && p) (goesBack l && q) l)) (at-place ns (ok .once) (stationOf (l .a)) a k) (at-place ns (ok .once) (stationOf (l .b)) a k)
+      ∙ one-link ns l x y refl refl (below-16 (stationOf (l .a)) (j .a)) (below-16 (stationOf (l .b)) (j .b)) (l .on) (goesOut l) (goesBack l) (eqb x a) (eqb y a)
+      ∙ sym (ap nodeOf (ap₂ (λ (o b : Bool). cond (o && eqb x a) (nodePlace y) (cond (b && eqb y a) (nodePlace x) None)) (passed-out (l .on) d) (passed-back (l .on) d)))
       ∙ ap nodeOf (sym e)
 
   crossed-sound : (l : Link) (f : ℕ) → hasNode (c .nodes) (stationOf (l .a)) ≡ true → hasNode (c .nodes) (stationOf (l .b)) ≡ true
@@ -155,7 +185,9 @@ module _ (c : Chart) (ok : Accepted c) where
       go true t q =
           let l = linkAt ls i in
           let j = ok .joins i (ltb-true i (ls .count) t) in
-          crossed-sound l f (j .a) (j .b) (l .on) (sameStation (stationOf (l .a)) (nodeAt ns a .station)) (sameStation (stationOf (l .b)) (nodeAt ns a .station)) q
+          let p = sameStation (stationOf (l .a)) (nodeAt ns a .station) in
+          let r = sameStation (stationOf (l .b)) (nodeAt ns a .station) in
+          crossed-sound l f (j .a) (j .b) (l .on) (goesOut l && p) (goesBack l && r) q
 
   pub start-below : start c < c .nodes .count
   unfolding start

@@ -1,10 +1,10 @@
 -- The theorems of specs/Promises.antt: by what a chart's links lead to.
 use Prim.Native.Nat.{ℕ}
 use mathlib.Core.Path.{_≡_, refl, ap, fun-ext, _∙_}
-use mathlib.Core.Bool.{Bool, true, false, cond}
+use mathlib.Core.Bool.{Bool, true, false, cond, _&&_, _||_}
 use mathlib.Core.Option.{Option, none, some}
 use borrow.Author.Tests.{lt-ltb}
-use lib.Dec.{ltb}
+use lib.Dec.{eqb, ltb}
 use Rattle.lists.specs.Places.{firstBelow}
 use Rattle.address.specs.declared.Station.{Station}
 use Rattle.address.specs.Address.{stationOf, sameStation}
@@ -15,8 +15,8 @@ use Rattle.chart.specs.Values.{nodeAt, linkAt, standsAt}
 use Rattle.route.specs.All.{allRoutes}
 use Rattle.route.proofs.Promises.{off-links, twin-links}
 use Rattle.chart_net.proofs.Places.{crossed}
-use Rattle.chart_net.specs.Net.{stationPlace, across, placed, farEnd, chartNet, start, routesOf, routesBetween}
-use Rattle.chart_net.specs.Promises.{SameRoutes, AcceptedEnds, ByStation, OffLink, TwinLink}
+use Rattle.chart_net.specs.Net.{stationPlace, goesOut, goesBack, across, placed, farEnd, chartNet, start, routesOf, routesBetween}
+use Rattle.chart_net.specs.Promises.{SameRoutes, AcceptedEnds, ByStation, OffLink, OneWay, TwinLink}
 use Rattle.chart_net.proofs.Kept as kept
 
 pub routes-kept : SameRoutes
@@ -60,7 +60,7 @@ by-station c d e =
     let m = e .links in
     λ j. allRoutes (record { nodes = n j; links = m j .count; far = far j; goal = goal j }) (begin j)
 
--- ---- off links and twin links
+-- ---- off links, links against their direction, and twin links
 
 off-far : (ns : Nodes) (ls : Links) (i : ℕ) → linkAt ls i .on ≡ false → (n : ℕ) → farEnd ns ls i n ≡ none
 unfolding farEnd
@@ -74,11 +74,32 @@ pub off-link : OffLink
 unfolding chartNet
 off-link c i off r p m = off-links (chartNet c) (start c) i (off-far (c .nodes) (c .links) i off) r p m
 
-twin-across : (l k : Link) (s : Station) → stationOf (l .a) ≡ stationOf (k .a) → stationOf (l .b) ≡ stationOf (k .b) → l .on ≡ k .on → across l s ≡ across k s
-twin-across l k s ea eb eo =
-    ap (λ (o : Bool). crossed o (sameStation (stationOf (l .a)) s) (sameStation (stationOf (l .b)) s) l) eo
-    ∙ go (k .on) (sameStation (stationOf (l .a)) s) (sameStation (stationOf (l .b)) s)
-    ∙ (λ j. crossed (k .on) (sameStation (ea j) s) (sameStation (eb j) s) k)
+-- a test that does not hold where it is asked
+unmet-test : (o p : Bool) → (o ≡ true → p ≡ false) → (o && p) ≡ false
+unmet-test true p h = h refl
+unmet-test false p h = refl
+
+against-far : (ns : Nodes) (l : Link) (on p q : Bool) → p ≡ false → q ≡ false → placed ns (crossed on p q l) ≡ none
+against-far ns l true p q e f = rw (e, f)
+against-far ns l false p q e f = refl
+
+pub one-way : OneWay
+unfolding chartNet farEnd
+one-way c i a w = go (ltb i (c .links .count))
+  where
+    go : (b : Bool) → cond b (placed (c .nodes) (across (linkAt (c .links) i) (nodeAt (c .nodes) a .station))) none ≡ none
+    go true =
+        let l = linkAt (c .links) i in
+        let s = nodeAt (c .nodes) a .station in
+        against-far (c .nodes) l (l .on) (goesOut l && sameStation (stationOf (l .a)) s) (goesBack l && sameStation (stationOf (l .b)) s) (unmet-test (goesOut l) _ (w .out)) (unmet-test (goesBack l) _ (w .back))
+    go false = refl
+
+twin-across : (l k : Link) (s : Station) → stationOf (l .a) ≡ stationOf (k .a) → stationOf (l .b) ≡ stationOf (k .b) → l .on ≡ k .on → l .direction ≡ k .direction
+    → across l s ≡ across k s
+unfolding goesOut goesBack
+twin-across l k s ea eb eo ed =
+    go (l .on) (goesOut l && sameStation (stationOf (l .a)) s) (goesBack l && sameStation (stationOf (l .b)) s)
+    ∙ (λ j. crossed (eo j) ((eqb (ed j) 0 || eqb (ed j) 1) && sameStation (ea j) s) ((eqb (ed j) 0 || eqb (ed j) 2) && sameStation (eb j) s) k)
   where
     go : (o p q : Bool) → crossed o p q l ≡ crossed o p q k
     go false p q = refl
@@ -92,6 +113,6 @@ twin-link c i j t hi hj ne p r q =
     let far : (n : ℕ) → chartNet c .far i n ≡ chartNet c .far j n =
     λ n.
     rw (lt-ltb i (c .links .count) hi, lt-ltb j (c .links .count) hj)
-    (ap (placed (c .nodes)) (twin-across (linkAt (c .links) i) (linkAt (c .links) j) (nodeAt (c .nodes) n .station) (t .a) (t .b) (t .on)))
+    (ap (placed (c .nodes)) (twin-across (linkAt (c .links) i) (linkAt (c .links) j) (nodeAt (c .nodes) n .station) (t .a) (t .b) (t .on) (t .direction)))
     in
     twin-links (chartNet c) (start c) i j far hj ne p r q

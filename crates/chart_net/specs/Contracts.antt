@@ -1,10 +1,10 @@
 -- What the trace keeps of a chart, by value (document 01, "Routes and their order"): the two ends of each link as node places, and the way each link is
 -- passed. Of a chart with more nodes or links than there may be, nothing.
-use Prim.Native.Nat.{ℕ}
-use mathlib.Core.Bool.{cond}
+use Prim.Native.Nat.{ℕ, _+_}
+use mathlib.Core.Bool.{_&&_, cond}
 use mathlib.Core.List.{List, [], _∷_}
 use lib.ListN.{replicate}
-use lib.Dec.{ltb}
+use lib.Dec.{ltb, leb}
 use Rattle.lists.specs.Places.{row}
 use Rattle.address.specs.declared.Station.{Station}
 use Rattle.address.specs.Address.{stationOf}
@@ -12,7 +12,7 @@ use Rattle.chart.specs.declared.Link.{Link}
 use Rattle.chart.specs.declared.Nodes.{Nodes}
 use Rattle.chart.specs.declared.Links.{Links}
 use Rattle.chart.specs.declared.Chart.{Chart}
-use Rattle.chart.specs.Values.{mostNodes, mostLinks, linkAt}
+use Rattle.chart.specs.Values.{mostNodes, mostLinks, backOnly, linkAt}
 use Rattle.route_search.specs.Contracts.{routesOver}
 use Rattle.chart_net.specs.Net.{stationPlace}
 
@@ -24,9 +24,9 @@ stationPlaceFor ns s = cond (ltb mostNodes (ns .count)) mostNodes (stationPlace 
 unfoldable pub endPlaces : Nodes → Link → List ℕ
 endPlaces ns l = stationPlaceFor ns (stationOf (l .a)) ∷ stationPlaceFor ns (stationOf (l .b)) ∷ []
 
--- 1 a link is passed both ways, 0 it is off
+-- 0 a link is off, 1 it is passed both ways, 2 out, 3 back
 unfoldable pub passageOf : Link → ℕ
-passageOf l = cond (l .on) 1 0
+passageOf l = cond (l .on && leb (l .direction) backOnly) (l .direction + 1) 0
 
 -- of the link at a place
 unfoldable pub endPlacesAt : Nodes → Links → ℕ → List ℕ

@@ -1,9 +1,9 @@
--- The net of a chart: what its routes go over (document 01, "Routes and their order"). Nodes and links go by their places.
+-- The net of a chart: what its routes go over (document 01, "Routes and their order"; document 02, Five). Nodes and links go by their places.
 use Prim.Native.Nat.{ℕ}
-use mathlib.Core.Bool.{cond}
+use mathlib.Core.Bool.{Bool, _&&_, _||_, cond}
 use mathlib.Core.Option.{Option, none, some}
 use mathlib.Core.List.{List}
-use lib.Dec.{ltb}
+use lib.Dec.{eqb, ltb}
 use Rattle.lists.specs.Places.{firstBelow}
 use Rattle.address.specs.declared.Station.{Station}
 use Rattle.address.specs.Address.{stationOf, sameStation}
@@ -11,7 +11,7 @@ use Rattle.chart.specs.declared.Link.{Link}
 use Rattle.chart.specs.declared.Nodes.{Nodes}
 use Rattle.chart.specs.declared.Links.{Links}
 use Rattle.chart.specs.declared.Chart.{Chart}
-use Rattle.chart.specs.Values.{nodeAt, linkAt, standsAt}
+use Rattle.chart.specs.Values.{bothWays, outOnly, backOnly, nodeAt, linkAt, standsAt}
 use Rattle.route.specs.Route.{Net}
 use Rattle.route.specs.All.{allRoutes}
 
@@ -19,12 +19,19 @@ use Rattle.route.specs.All.{allRoutes}
 unfoldable pub stationPlace : Nodes → Station → ℕ
 stationPlace ns s = firstBelow (standsAt ns s) (ns .count)
 
--- the far end of a link for one who stands at a station: a link that is on is passed either way
+-- whether a link is passed from its first end to its second, and from its second to its first
+unfoldable pub goesOut : Link → Bool
+goesOut l = eqb (l .direction) bothWays || eqb (l .direction) outOnly
+
+unfoldable pub goesBack : Link → Bool
+goesBack l = eqb (l .direction) bothWays || eqb (l .direction) backOnly
+
+-- the far end of a link for one who stands at a station: a link that is on is passed in its direction
 abbrev pub across : Link → Station → Option Station
 across l s =
     cond (l .on)
-    (cond (sameStation (stationOf (l .a)) s) (some (stationOf (l .b)))
-    (cond (sameStation (stationOf (l .b)) s) (some (stationOf (l .a)))
+    (cond (goesOut l && sameStation (stationOf (l .a)) s) (some (stationOf (l .b)))
+    (cond (goesBack l && sameStation (stationOf (l .b)) s) (some (stationOf (l .a)))
     none))
     none
 

@@ -1,15 +1,16 @@
--- What the net of a chart says (document 01, "Routes and their order", "Easy slips"). proofs/Promises.antt has the theorems.
+-- What the net of a chart says (document 01, "Routes and their order", "Easy slips"; document 02, Five). proofs/Promises.antt has the theorems.
 use Prim.Native.Nat.{ℕ, _<_}
 use mathlib.Core.Path.{_≡_}
-use mathlib.Core.Bool.{false}
+use mathlib.Core.Bool.{true, false}
+use mathlib.Core.Option.{none}
 use mathlib.Core.List.{List, _∷_, _++_, List·Memᴰ}
-use Rattle.address.specs.Address.{stationOf}
+use Rattle.address.specs.Address.{stationOf, sameStation}
 use Rattle.chart.specs.declared.Chart.{Chart}
 use Rattle.chart.specs.Values.{nodeAt, linkAt}
 use Rattle.chart_refuse.specs.Promises.{Accepted}
 use Rattle.route.specs.Route.{Sound, RouteFrom}
 use Rattle.route.specs.Promises.{TwoRoutes}
-use Rattle.chart_net.specs.Net.{chartNet, start, routesOf}
+use Rattle.chart_net.specs.Net.{goesOut, goesBack, chartNet, start, routesOf}
 use Rattle.chart_net.specs.Contracts.{arrayRoutes}
 
 -- the arrays that the trace keeps of an accepted chart have the chart's routes
@@ -44,11 +45,20 @@ IsRouteOf c r = RouteFrom (chartNet c) (start c) r
 abbrev pub OffLink : Type 0
 OffLink = (c : Chart) (i : ℕ) → linkAt (c .links) i .on ≡ false → (r : List ℕ) → IsRouteOf c r → List·Memᴰ i r → ⊥
 
--- the links i and j join the same two stations, and both are on or both are off
+-- a link is passed in its direction alone: from a node where it goes elsewhere it leads nowhere
+pub record AgainstTheWay (c : Chart) (i a : ℕ) : Type 0 where
+  pub out : goesOut (linkAt (c .links) i) ≡ true → sameStation (stationOf (linkAt (c .links) i .a)) (nodeAt (c .nodes) a .station) ≡ false
+  pub back : goesBack (linkAt (c .links) i) ≡ true → sameStation (stationOf (linkAt (c .links) i .b)) (nodeAt (c .nodes) a .station) ≡ false
+
+abbrev pub OneWay : Type 0
+OneWay = (c : Chart) (i a : ℕ) → AgainstTheWay c i a → chartNet c .far i a ≡ none
+
+-- the links i and j join the same two stations, in the same direction, and both are on or both are off
 pub record Twins (c : Chart) (i j : ℕ) : Type 0 where
   pub a : stationOf (linkAt (c .links) i .a) ≡ stationOf (linkAt (c .links) j .a)
   pub b : stationOf (linkAt (c .links) i .b) ≡ stationOf (linkAt (c .links) j .b)
   pub on : linkAt (c .links) i .on ≡ linkAt (c .links) j .on
+  pub direction : linkAt (c .links) i .direction ≡ linkAt (c .links) j .direction
 
 -- two such links are two: where one is in a route, the other in its place makes another route
 abbrev pub TwinLink : Type 0

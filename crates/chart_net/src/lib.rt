@@ -1,7 +1,8 @@
-// What the trace keeps of a chart by value (document 01, "Routes and their order"): the two ends of each link as node places, the way each link is
-// passed, and the places that the question names. Nodes are found by brigade and node number.
+// What the trace keeps of a chart by value (document 01, "Routes and their order"; document 02, Five): the two ends of each link as node places, the way each
+// link is passed, and the places that the question names. Nodes are found by brigade and node number.
 use address::Station;
 use address::station_of;
+use chart::BACK_ONLY;
 use chart::Link;
 use chart::Links;
 use chart::MOST_LINKS;
@@ -81,11 +82,15 @@ pub fn ends_for(nodes: Nodes, links: Links) -> [[u8; 2]; 48]
     ends
 }
 
-// The way that a link is passed: 1 both ways, 0 not at all.
+// The way that a link is passed: 0 not at all, 1 both ways, 2 out, 3 back.
 fn passage_of(l: Link) -> u8
     ensures { λ r. ⌜ r ≡ passageOf l ⌝ }
 {
-    if l.on { 1 } else { 0 }
+    let d = l.direction;
+    if l.on & (d <= BACK_ONLY) {
+        return d + 1;
+    }
+    0
 }
 
 // The way that each link is passed, in 48 places, the unused ones zero; all of them where the links are too many.

@@ -3,8 +3,8 @@ use Prim.Native.Nat.{ℕ, _<_, _≤_}
 use mathlib.Core.Path.{_≡_, refl, sym, ap, subst, _∙_}
 use mathlib.Core.List.{List}
 use mathlib.Core.Bool.{true, false}
+use native.Mathlib.Omega.{arith}
 use lib.ListN.{length, set, replicate}
-use lib.Dec.{eqb}
 use borrow.Author.Tests.{eq-eqb, ne-eqb}
 use Rattle.buffer.specs.Bytes.{Bytes}
 use Rattle.lists.proofs.Refusals.{taken}
@@ -14,11 +14,11 @@ use Rattle.chart.specs.declared.ChartNode.{ChartNode}
 use Rattle.chart.specs.declared.Link.{Link}
 use Rattle.chart.specs.Values.{mostNodes, mostLinks, noNode, noLink, noChart}
 use Rattle.chart_read.specs.declared.Counts.{Counts}
-use Rattle.chart_read.specs.Fields.{tagAt, bodyAt, pastField, nodeIn, linkIn}
+use Rattle.chart_read.specs.Fields.{isForm, tagAt, bodyAt, pastField, nodeIn, linkIn}
 use Rattle.chart_read.specs.Reading.{SoFar, nothing, withNode, withLink, withQuestion, withBody, Refusing, refusing, bodyRefusal, fieldRefusal, refusedAt, readChartOf}
-use Rattle.chart_read.specs.Contracts.{Keys, refusingBy, TakesField, fieldEnd}
+use Rattle.chart_read.specs.Contracts.{Keys, refusingBy, TakesField}
 use Rattle.chart_read.proofs.Walking.{heldPast, Reaches, reach-start, reach-next, reach-refused, reach-end, end-unasked, end-asked}
-use Rattle.chart_read.proofs.Laws.{with-node, with-link, with-question, node-zero, link-zero, node-bounds, link-bounds, whole, body-zero, end-whole}
+use Rattle.chart_read.proofs.Laws.{link-length-bounds, with-node, with-link, with-question, node-zero, link-zero, node-bounds, link-bounds, whole, body-zero}
 use Rattle.chart_read.proofs.Keyed.{countsOf}
 use Rattle.chart_read.proofs.Taking.{HeldKeys, noKeys, none-held, held-refusal, held-keys}
 
@@ -35,7 +35,7 @@ pub record Turn : Type 0 where
 abbrev pub soFar : List ChartNode → List Link → Station → Station → Counts → SoFar
 soFar nodes links from to c =
     record {
-      chart = record { nodes = record { count = c .nodes; items = nodes }; links = record { count = c .links; items = links }; from = from; to = to };
+      chart = record { nodes = record { count = c .nodes; items = nodes }; links = record { count = c .links; form = c .form; items = links }; from = from; to = to };
       asked = c .asked;
     }
 
@@ -72,7 +72,7 @@ pub record Accepted (bytes : List ℕ) (t : Turn) (b : List ℕ) (next : ℕ) : 
   pub field : Field bytes t
   pub zero : refusalOf bytes t ≡ 0
   pub body : b ≡ bodyAt bytes (t .at)
-  pub past : next ≡ fieldEnd bytes (t .at)
+  pub past : next ≡ pastField bytes (t .at)
 
 module _ {bytes : List ℕ} {t : Turn} (f : Field bytes t) where
   refusal-same : refusalOf bytes t ≡ fieldRefusal (refusing (soFarOf t)) bytes (t .at)
@@ -96,14 +96,10 @@ module _ {bytes : List ℕ} {t : Turn} {b : List ℕ} {next : ℕ} (f : Accepted
   abbrev r : Refusing
   r = refusingBy (t .keys)
 
-  -- the place past it
-  pub next-is : next ≡ pastField bytes (t .at)
-  next-is = f .past ∙ sym (end-whole bytes (t .at) _ refl (whole-field (f .field) (f .zero)))
-
   -- the walk goes on there
   reached : Reaches bytes (heldPast s bytes (t .at)) next
   reached =
-      subst (λ (x : ℕ). Reaches bytes (heldPast s bytes (t .at)) x) (sym next-is)
+      subst (λ (x : ℕ). Reaches bytes (heldPast s bytes (t .at)) x) (sym (f .past))
       (reach-next bytes s (t .at) (f .field .begins) (f .field .holding .reaches) (sym (refusal-same (f .field)) ∙ f .zero))
 
   body-none : bodyRefusal r tag b ≡ 0
@@ -115,8 +111,8 @@ module _ {bytes : List ℕ} {t : Turn} {b : List ℕ} {next : ℕ} (f : Accepted
       let p = node-bounds (r .node) b (node-zero r tag b body-none (eq-eqb tag 1 g)) in
       (p .0, p .1)
 
-  pub link-length : tag ≡ 2 → length b ≡ 9
-  link-length g = link-bounds (r .link) b (link-zero r tag b body-none (ap (λ (x : ℕ). eqb x 1) g) (eq-eqb tag 2 g)) .0
+  pub link-length : isForm tag ≡ true → 9 ≤ length b
+  link-length g = omega (arith, link-length-bounds tag .0, link-bounds tag (r .link tag) b (link-zero r tag b body-none g) .0)
 
   -- with the keys that are then stored
   module _ (k : ℕ) (keys : Keys) (p : TakesField (t .keys) bytes (t .at) k keys) where
@@ -141,18 +137,18 @@ module _ {bytes : List ℕ} {t : Turn} {b : List ℕ} {next : ℕ} (f : Accepted
         goes-on (withNode s (nodeIn b)) (with-node s tag b (eq-eqb tag 1 g)) _ _ _ _
         (λ c e i. soFar (set (t .nodes) (t .keys .counts .nodes) (q i)) (t .links) (t .from) (t .to) (e i))
 
-    pub holding-link : tag ≡ 2 → (link : Link) → link ≡ linkIn b
+    pub holding-link : isForm tag ≡ true → (link : Link) → link ≡ linkIn b
         → Holding bytes (record { nodes = t .nodes; links = set (t .links) (t .keys .counts .links) link; from = t .from; to = t .to; keys = keys; at = next })
     unfolding withLink
     holding-link g link q =
-        goes-on (withLink s (linkIn b)) (with-link s tag b (ap (λ (x : ℕ). eqb x 1) g) (eq-eqb tag 2 g)) _ _ _ _
+        goes-on (withLink s tag (linkIn b)) (with-link s tag b g) _ _ _ _
         (λ c e i. soFar (t .nodes) (set (t .links) (t .keys .counts .links) (q i)) (t .from) (t .to) (e i))
 
-    pub holding-question : (tag ≡ 1 → ⊥) → (tag ≡ 2 → ⊥) → {from to : Station} → from ≡ stationIn b 0 → to ≡ stationIn b 3
+    pub holding-question : (tag ≡ 1 → ⊥) → isForm tag ≡ false → {from to : Station} → from ≡ stationIn b 0 → to ≡ stationIn b 3
         → Holding bytes (record { nodes = t .nodes; links = t .links; from = from; to = to; keys = keys; at = next })
     unfolding withQuestion
     holding-question x y d e =
-        goes-on (withQuestion s (stationIn b 0) (stationIn b 3)) (with-question s tag b (ne-eqb tag 1 x) (ne-eqb tag 2 y)) _ _ _ _
+        goes-on (withQuestion s (stationIn b 0) (stationIn b 3)) (with-question s tag b (ne-eqb tag 1 x) y) _ _ _ _
         (λ c q i. soFar (t .nodes) (t .links) (d i) (e i) (q i))
 
 -- the input's end

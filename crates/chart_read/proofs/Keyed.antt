@@ -12,9 +12,9 @@ use Rattle.address_bytes.specs.Wide.{stationIn, addressIn}
 use Rattle.chart_refuse.specs.Contracts.{endKey, EndKeyed, KeyedNodes, KeyedLinks}
 use Rattle.chart_refuse.proofs.ByKeys.{node-keyed, link-keyed, question-keyed}
 use Rattle.chart_read.specs.declared.Counts.{Counts}
-use Rattle.chart_read.specs.Fields.{tagAt, bodyAt, cutShort, nodeIn, linkIn}
-use Rattle.chart_read.specs.Reading.{SoFar, Refusing, nodeLate, refusing, nodeBodyRefusal, linkBodyRefusal, questionBodyRefusal, bodyRefusal, fieldRefusal}
-use Rattle.chart_read.specs.Contracts.{asKeys, refusingBy}
+use Rattle.chart_read.specs.Fields.{isForm, linkLength, tagAt, bodyAt, cutShort, nodeIn, linkIn}
+use Rattle.chart_read.specs.Reading.{SoFar, Refusing, nodeLate, mixes, linkLate, linkAfter, refusing, nodeBodyRefusal, linkBodyRefusal, questionBodyRefusal, bodyRefusal, fieldRefusal}
+use Rattle.chart_read.specs.Contracts.{asKeys, linkLateBy, linkAfterKeys, refusingBy}
 use Rattle.buffer.proofs.Words.{word-fits}
 use Rattle.chart_read.proofs.Fields.{bytes-body}
 
@@ -25,7 +25,7 @@ end-fits b h at =
 
 -- the counts of what is held
 abbrev pub countsOf : SoFar → Counts
-countsOf s = record { nodes = s .chart .nodes .count; links = s .chart .links .count; asked = s .asked }
+countsOf s = record { nodes = s .chart .nodes .count; links = s .chart .links .count; form = s .chart .links .form; asked = s .asked }
 
 module _ (s : SoFar) (keys akeys bkeys : List ℕ) (hn : KeyedNodes (s .chart .nodes) keys) (hl : KeyedLinks (s .chart .links) akeys bkeys) where
   abbrev by : Refusing
@@ -36,11 +36,11 @@ module _ (s : SoFar) (keys akeys bkeys : List ℕ) (hn : KeyedNodes (s .chart .n
   node-same b h =
       ap (λ (k : ℕ). refuse 23 (ltb (length b) 3) (refuse 23 (ltb 27 (length b)) k)) (node-keyed (s .chart .nodes) keys hn (nodeLate s) (nodeIn b) (word-fits b h 1))
 
-  link-same : (b : List ℕ) → Bytes b → linkBodyRefusal (by .link) b ≡ linkBodyRefusal (refusing s .link) b
-  unfolding refusingBy refusing linkBodyRefusal linkIn
-  link-same b h =
-      ap (λ (k : ℕ). refuse 23 (not (eqb (length b) 9)) (refuse 24 (ltb 1 (getD b 8 0)) k))
-      (link-keyed (s .chart .nodes) keys hn (s .chart .links) akeys bkeys hl (s .asked) (linkIn b) _ _ (end-fits b h 0) (end-fits b h 4))
+  link-same : (form : ℕ) (b : List ℕ) → Bytes b → linkBodyRefusal form (by .link form) b ≡ linkBodyRefusal form (refusing s .link form) b
+  unfolding refusingBy refusing linkLateBy linkLate mixes linkAfterKeys linkAfter linkBodyRefusal linkIn
+  link-same form b h =
+      ap (λ (k : ℕ). refuse 23 (not (eqb (length b) (linkLength form))) (refuse 24 (ltb 1 (getD b 8 0)) k))
+      (link-keyed (s .chart .nodes) keys hn (s .chart .links) akeys bkeys hl (linkLate s form) form (linkIn b) _ _ (end-fits b h 0) (end-fits b h 4))
 
   question-same : (b : List ℕ) → Bytes b → questionBodyRefusal (by .question) b ≡ questionBodyRefusal (refusing s .question) b
   unfolding refusingBy refusing questionBodyRefusal
@@ -50,7 +50,7 @@ module _ (s : SoFar) (keys akeys bkeys : List ℕ) (hn : KeyedNodes (s .chart .n
 
   body-same : (tag : ℕ) (b : List ℕ) → Bytes b → bodyRefusal by tag b ≡ bodyRefusal (refusing s) tag b
   unfolding bodyRefusal
-  body-same tag b h = λ i. cond (eqb tag 1) (node-same b h i) (cond (eqb tag 2) (link-same b h i) (cond (eqb tag 3) (question-same b h i) 22))
+  body-same tag b h = λ i. cond (eqb tag 1) (node-same b h i) (cond (isForm tag) (link-same tag b h i) (cond (eqb tag 3) (question-same b h i) 22))
 
   pub field-same : (bytes : List ℕ) → Bytes bytes → (at : ℕ) → fieldRefusal by bytes at ≡ fieldRefusal (refusing s) bytes at
   unfolding fieldRefusal

@@ -16,10 +16,10 @@ use Rattle.chart.specs.Refusals.{nodeRefusalBy, linkRefusalBy}
 use Rattle.chart_refuse.specs.Contracts.{stationKey, endKey, StationKeyed, KeyedNodes, KeyedLinks, nodeRefusalByKeys, linkRefusalByKeys}
 use Rattle.chart_refuse.proofs.ByKeys.{keyed-node, keyed-link}
 use Rattle.chart_read.specs.declared.Counts.{Counts}
-use Rattle.chart_read.specs.Fields.{tagAt, bodyAt, pastField, nodeIn, linkIn}
+use Rattle.chart_read.specs.Fields.{isForm, tagAt, bodyAt, pastField, nodeIn, linkIn}
 use Rattle.chart_read.specs.Reading.{SoFar, nothing, nodeAdded, linkAdded, withNode, withLink, withQuestion, withBody, refusing, nodeBodyRefusal, linkBodyRefusal, bodyRefusal, fieldRefusal}
-use Rattle.chart_read.specs.Contracts.{Keys, asKeys, refusingBy, withNodeKey, withLinkKeys, withAsked, keysWith, Takes, TakesField}
-use Rattle.chart_read.proofs.Laws.{with-node, with-link, with-question, node-zero, link-zero, node-bounds, link-bounds, body-zero, field-whole}
+use Rattle.chart_read.specs.Contracts.{Keys, asKeys, linkAfterKeys, refusingBy, withNodeKey, withLinkKeys, withAsked, keysWith, Takes, TakesField}
+use Rattle.chart_read.proofs.Laws.{tag-first, tag-later, form-no-node, with-node, with-link, with-question, node-zero, link-zero, node-bounds, link-bounds, body-zero, field-whole}
 use Rattle.chart_read.proofs.Fields.{bytes-body}
 use Rattle.chart_read.proofs.Keyed.{end-fits, countsOf, field-same}
 use Rattle.buffer.proofs.Words.{word-fits}
@@ -44,14 +44,19 @@ node-room late keys n b e =
     let r = pass 24 late _ (q .1) in
     leb-false 16 n (pass 25 (leb 16 n) _ (r .1) .0)
 
-pub link-room : (late : Bool) (keys : List ℕ) (n : ℕ) (akeys bkeys : List ℕ) (m : ℕ) (b : List ℕ) → linkBodyRefusal (linkRefusalByKeys late keys n akeys bkeys m) b ≡ 0
-    → m < 48
+pub link-room : (late : Bool) (form : ℕ) (keys : List ℕ) (n : ℕ) (akeys bkeys : List ℕ) (m : ℕ) (b : List ℕ)
+    → linkBodyRefusal form (linkRefusalByKeys late form keys n akeys bkeys m) b ≡ 0 → m < 48
 unfolding linkRefusalByKeys linkRefusalBy
-link-room late keys n akeys bkeys m b e =
-    let p = pass 23 (not (linkInRange (linkIn b))) _ (link-bounds (linkRefusalByKeys late keys n akeys bkeys m) b e .2) in
+link-room late form keys n akeys bkeys m b e =
+    let p = pass 23 (not (linkInRange form (linkIn b))) _ (link-bounds form (linkRefusalByKeys late form keys n akeys bkeys m) b e .2) in
     let q = pass 24 late _ (p .1) in
     let r = pass 25 (ltb 16 n) _ (q .1) in
     leb-false 48 m (pass 25 (leb 48 m) _ (r .1) .0)
+
+-- the keys of a link's body
+pub link-keys : (t : Keys) (tag : ℕ) (b : List ℕ) → isForm tag ≡ true → withLinkKeys t tag (linkIn b) ≡ keysWith t tag b
+unfolding keysWith
+link-keys t tag b e = tag-later _ (form-no-node tag e) (tag-first _ _ e)
 
 -- ---- one field
 
@@ -75,9 +80,9 @@ module _ (t : Keys) (bytes : List ℕ) (at : ℕ) where
     unfolding refusingBy
     node-left g = node-room _ _ _ _ (node-zero (refusingBy t) _ _ (body-zero (refusingBy t) bytes at e) (eq-eqb _ 1 g))
 
-    pub link-left : tagAt bytes at ≡ 2 → t .counts .links < 48
-    unfolding refusingBy
-    link-left g = link-room _ _ _ _ _ _ _ (link-zero (refusingBy t) _ _ (body-zero (refusingBy t) bytes at e) (ap (λ (x : ℕ). eqb x 1) g) (eq-eqb _ 2 g))
+    pub link-left : isForm (tagAt bytes at) ≡ true → t .counts .links < 48
+    unfolding refusingBy linkAfterKeys
+    link-left g = link-room _ _ _ _ _ _ _ _ (link-zero (refusingBy t) _ _ (body-zero (refusingBy t) bytes at e) g)
 
 -- ---- the keys of what is held
 
@@ -95,7 +100,7 @@ pub record HeldKeys (s : SoFar) (t : Keys) : Type 0 where
 
 -- before the first field
 abbrev pub noKeys : Keys
-noKeys = asKeys (replicate 16 0) (replicate 48 0) (replicate 48 0) (record { nodes = 0; links = 0; asked = false })
+noKeys = asKeys (replicate 16 0) (replicate 48 0) (replicate 48 0) (record { nodes = 0; links = 0; form = 2; asked = false })
 
 pub none-held : HeldKeys nothing noKeys
 unfolding nothing noChart
@@ -127,7 +132,7 @@ module _ (s : SoFar) (t : Keys) (h : HeldKeys s t) where
           nodes = subst (λ (c : Counts). KeyedNodes (nodeAdded (s .chart .nodes) x) (set (t .keys) (c .nodes) k)) (sym (h .counts))
               (keyed-node (s .chart .nodes) (t .keys) (h .nodes) x k f (omega (arith, h .long-nodes)) (omega (arith, h .long-keys)));
           links = h .links;
-          counts = ap (λ (c : Counts). record { nodes = c .nodes + 1; links = c .links; asked = c .asked }) (h .counts);
+          counts = ap (λ (c : Counts). record { nodes = c .nodes + 1; links = c .links; form = c .form; asked = c .asked }) (h .counts);
           few-nodes = omega (arith, l);
           few-links = h .few-links;
           long-nodes = length-set (s .chart .nodes .items) (s .chart .nodes .count) x ∙ h .long-nodes;
@@ -137,18 +142,18 @@ module _ (s : SoFar) (t : Keys) (h : HeldKeys s t) where
           long-bkeys = h .long-bkeys;
         }
 
-    held-link : t .counts .links < 48 → HeldKeys (withLink s (linkIn b)) (withLinkKeys t (linkIn b))
+    held-link : (form : ℕ) → t .counts .links < 48 → HeldKeys (withLink s form (linkIn b)) (withLinkKeys t form (linkIn b))
     unfolding withLink withLinkKeys linkIn
-    held-link room =
+    held-link form room =
         let x = linkIn b in
         let j = endKey (x .a) in
         let k = endKey (x .b) in
         let l : s .chart .links .count < 48 = subst (λ (c : Counts). c .links < 48) (h .counts) room in
         record {
           nodes = h .nodes;
-          links = subst (λ (c : Counts). KeyedLinks (linkAdded (s .chart .links) x) (set (t .akeys) (c .links) j) (set (t .bkeys) (c .links) k)) (sym (h .counts))
-              (keyed-link (s .chart .links) (t .akeys) (t .bkeys) (h .links) x j k (end-fits b all 0) (end-fits b all 4) (omega (arith, h .long-links)) (omega (arith, h .long-akeys)) (omega (arith, h .long-bkeys)));
-          counts = ap (λ (c : Counts). record { nodes = c .nodes; links = c .links + 1; asked = c .asked }) (h .counts);
+          links = subst (λ (c : Counts). KeyedLinks (linkAdded (s .chart .links) form x) (set (t .akeys) (c .links) j) (set (t .bkeys) (c .links) k)) (sym (h .counts))
+              (keyed-link (s .chart .links) (t .akeys) (t .bkeys) (h .links) form x j k (end-fits b all 0) (end-fits b all 4) (omega (arith, h .long-links)) (omega (arith, h .long-akeys)) (omega (arith, h .long-bkeys)));
+          counts = ap (λ (c : Counts). record { nodes = c .nodes; links = c .links + 1; form = form; asked = c .asked }) (h .counts);
           few-nodes = h .few-nodes;
           few-links = omega (arith, l);
           long-nodes = h .long-nodes;
@@ -164,7 +169,7 @@ module _ (s : SoFar) (t : Keys) (h : HeldKeys s t) where
         record {
           nodes = h .nodes;
           links = h .links;
-          counts = ap (λ (c : Counts). record { nodes = c .nodes; links = c .links; asked = true }) (h .counts);
+          counts = ap (λ (c : Counts). record { nodes = c .nodes; links = c .links; form = c .form; asked = true }) (h .counts);
           few-nodes = h .few-nodes;
           few-links = h .few-links;
           long-nodes = h .long-nodes;
@@ -174,13 +179,13 @@ module _ (s : SoFar) (t : Keys) (h : HeldKeys s t) where
           long-bkeys = h .long-bkeys;
         }
 
-    held-body : (tag : ℕ) → (tag ≡ 1 → t .counts .nodes < 16) → (tag ≡ 2 → t .counts .links < 48) → HeldKeys (withBody s tag b) (keysWith t tag b)
+    held-body : (tag : ℕ) → (tag ≡ 1 → t .counts .nodes < 16) → (isForm tag ≡ true → t .counts .links < 48) → HeldKeys (withBody s tag b) (keysWith t tag b)
     unfolding keysWith
-    held-body tag n m = by (eqb tag 1) refl (eqb tag 2) refl
+    held-body tag n m = by (eqb tag 1) refl (isForm tag) refl
       where
-        by : (x : Bool) → eqb tag 1 ≡ x → (y : Bool) → eqb tag 2 ≡ y → HeldKeys (withBody s tag b) (keysWith t tag b)
+        by : (x : Bool) → eqb tag 1 ≡ x → (y : Bool) → isForm tag ≡ y → HeldKeys (withBody s tag b) (keysWith t tag b)
         by true p y q = rw (with-node s tag b p, p) (held-node (n (eqb-true tag 1 p)))
-        by false p true q = rw (with-link s tag b p q, p, q) (held-link (m (eqb-true tag 2 q)))
+        by false p true q = rw (with-link s tag b q, p, q) (held-link tag (m q))
         by false p false q = rw (with-question s tag b p q, p, q) held-question
 
   module _ (bytes : List ℕ) (all : Bytes bytes) (at : ℕ) where

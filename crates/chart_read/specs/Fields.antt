@@ -1,7 +1,7 @@
--- Tagged fields (document 01, "The chart"): a one-byte tag, a two-byte length, then the body; and what a body of each tag says.
+-- Tagged fields (document 01, "The chart"; document 02, Five): a one-byte tag, a two-byte length, then the body; and what a body of each tag says.
 use Prim.Native.Nat.{ℕ, _+_, _-_}
 use mathlib.Core.List.{List, _∷_, _++_}
-use mathlib.Core.Bool.{Bool}
+use mathlib.Core.Bool.{Bool, _||_, cond}
 use lib.ListN.{length, getD, take, drop}
 use lib.Dec.{ltb, eqb}
 use Rattle.buffer.specs.Bytes.{wordAt, wordBytes}
@@ -9,27 +9,33 @@ use Rattle.lists.specs.Places.{row}
 use Rattle.address_bytes.specs.Wide.{stationIn, addressIn}
 use Rattle.chart.specs.declared.ChartNode.{ChartNode}
 use Rattle.chart.specs.declared.Link.{Link}
-use Rattle.chart.specs.Values.{longestLabel}
+use Rattle.chart.specs.Values.{longestLabel, plain, directed, bothWays}
 
--- the tags
+-- the tags. A link's is its form
 abbrev pub nodeTag : ℕ
 nodeTag = 1
-
-abbrev pub linkTag : ℕ
-linkTag = 2
 
 abbrev pub questionTag : ℕ
 questionTag = 3
 
--- the lengths of a body: a node's is 3 to 27 by its label, a link's 9, the question's 6
+unfoldable pub isForm : ℕ → Bool
+isForm tag = eqb tag plain || eqb tag directed
+
+-- the lengths of a body: a node's is 3 to 27 by its label, a link's 9, or 10 with its direction, the question's 6
 abbrev pub shortestNode : ℕ
 shortestNode = 3
 
 abbrev pub longestNode : ℕ
 longestNode = 27
 
-abbrev pub linkLength : ℕ
-linkLength = 9
+abbrev pub plainLength : ℕ
+plainLength = 9
+
+abbrev pub directedLength : ℕ
+directedLength = 10
+
+unfoldable pub linkLength : ℕ → ℕ
+linkLength form = cond (eqb form directed) directedLength plainLength
 
 abbrev pub questionLength : ℕ
 questionLength = 6
@@ -65,6 +71,6 @@ nodeIn b =
       label = row longestLabel 0 (bytesFrom b 3) (length b - shortestNode);
     }
 
--- the link: two ends, and whether it is on
+-- the link: two ends, whether it is on, and its direction; a plain one's body ends before it, and it goes both ways
 unfoldable pub linkIn : List ℕ → Link
-linkIn b = record { a = addressIn b 0; b = addressIn b 4; on = eqb (getD b 8 0) 1 }
+linkIn b = record { a = addressIn b 0; b = addressIn b 4; on = eqb (getD b 8 0) 1; direction = getD b 9 bothWays }

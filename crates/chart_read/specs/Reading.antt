@@ -1,7 +1,7 @@
--- The chart's reader (document 01, "The chart"): the fields one after the other. The first bad field decides, and in it the lowest number.
+-- The chart's reader (document 01, "The chart"; document 02, Five): the fields one after the other. The first bad field decides, and in it the lowest number.
 use Prim.Native.Nat.{ℕ, suc, zero, _+_}
 use mathlib.Core.List.{List}
-use mathlib.Core.Bool.{Bool, true, false, not, cond, _||_}
+use mathlib.Core.Bool.{Bool, true, false, not, cond, _&&_, _||_}
 use lib.ListN.{length, getD, set}
 use lib.Dec.{ltb, leb, eqb}
 use Rattle.lists.specs.Refusals.{refuse}
@@ -15,7 +15,7 @@ use Rattle.chart.specs.declared.Chart.{Chart}
 use Rattle.chart.specs.Values.{noChart}
 use Rattle.chart.specs.Refusals.{nodeRefusal, linkRefusal, questionRefusal}
 use Rattle.chart_read.specs.declared.ChartRead.{ChartRead}
-use Rattle.chart_read.specs.Fields.{nodeTag, linkTag, questionTag, shortestNode, longestNode, linkLength, questionLength, tagAt, bodyAt, pastField, cutShort, nodeIn, linkIn}
+use Rattle.chart_read.specs.Fields.{nodeTag, questionTag, isForm, shortestNode, longestNode, linkLength, questionLength, tagAt, bodyAt, pastField, cutShort, nodeIn, linkIn}
 
 -- ---- what is held
 
@@ -28,12 +28,12 @@ pub record SoFar : Type 0 where
 unfoldable pub nothing : SoFar
 nothing = record { chart = noChart; asked = false }
 
--- a node after the others, and a link
+-- a node after the others, and a link, whose form is theirs
 abbrev pub nodeAdded : Nodes → ChartNode → Nodes
 nodeAdded ns n = record { count = ns .count + 1; items = set (ns .items) (ns .count) n }
 
-abbrev pub linkAdded : Links → Link → Links
-linkAdded ls l = record { count = ls .count + 1; items = set (ls .items) (ls .count) l }
+abbrev pub linkAdded : Links → ℕ → Link → Links
+linkAdded ls form l = record { count = ls .count + 1; form = form; items = set (ls .items) (ls .count) l }
 
 -- with one node, one link or the question more
 unfoldable pub withNode : SoFar → ChartNode → SoFar
@@ -41,40 +41,51 @@ withNode s n =
     let c = s .chart in
     record { chart = record { nodes = nodeAdded (c .nodes) n; links = c .links; from = c .from; to = c .to }; asked = s .asked }
 
-unfoldable pub withLink : SoFar → Link → SoFar
-withLink s l =
+unfoldable pub withLink : SoFar → ℕ → Link → SoFar
+withLink s form l =
     let c = s .chart in
-    record { chart = record { nodes = c .nodes; links = linkAdded (c .links) l; from = c .from; to = c .to }; asked = s .asked }
+    record { chart = record { nodes = c .nodes; links = linkAdded (c .links) form l; from = c .from; to = c .to }; asked = s .asked }
 
 unfoldable pub withQuestion : SoFar → Station → Station → SoFar
 withQuestion s from to = record { chart = record { nodes = s .chart .nodes; links = s .chart .links; from = from; to = to }; asked = true }
 
--- with the value of one body more, which has one of the three tags
+-- with the value of one body more, which has one of the tags
 unfoldable pub withBody : SoFar → ℕ → List ℕ → SoFar
 withBody s tag b =
     cond (eqb tag nodeTag) (withNode s (nodeIn b))
-    (cond (eqb tag linkTag) (withLink s (linkIn b))
+    (cond (isForm tag) (withLink s tag (linkIn b))
     (withQuestion s (stationIn b 0) (stationIn b 3)))
 
 -- ---- the number of a field
 
--- the number that a node, a link or the question gets after what came before it
+-- the number that a node, a link of a form or the question gets after what came before it
 pub record Refusing : Type 0 where
   pub node : ChartNode → ℕ
-  pub link : Link → ℕ
+  pub link : ℕ → Link → ℕ
   pub question : Station → Station → ℕ
 
 -- a node comes too late after a link or the question
 unfoldable pub nodeLate : SoFar → Bool
 nodeLate s = s .asked || ltb 0 (s .chart .links .count)
 
--- after what is held; a link and the question come too late after the question
+-- links of the other form are there
+unfoldable pub mixes : Links → ℕ → Bool
+mixes ls form = ltb 0 (ls .count) && not (eqb (ls .form) form)
+
+-- a link comes too late after the question, and after a link of the other form
+unfoldable pub linkLate : SoFar → ℕ → Bool
+linkLate s form = s .asked || mixes (s .chart .links) form
+
+unfoldable pub linkAfter : SoFar → ℕ → Link → ℕ
+linkAfter s form = linkRefusal (linkLate s form) form (s .chart .nodes) (s .chart .links)
+
+-- after what is held; the question comes too late after another
 unfoldable pub refusing : SoFar → Refusing
 refusing s =
     let c = s .chart in
     record {
       node = nodeRefusal (nodeLate s) (c .nodes);
-      link = linkRefusal (s .asked) (c .nodes) (c .links);
+      link = linkAfter s;
       question = questionRefusal (s .asked) (c .nodes);
     }
 
@@ -85,10 +96,10 @@ nodeBodyRefusal refusal b =
     (refuse 23 (ltb longestNode (length b))
     (refusal (nodeIn b)))
 
--- a link's last byte is 1 on or 0 off, else it is out of range
-unfoldable pub linkBodyRefusal : (Link → ℕ) → List ℕ → ℕ
-linkBodyRefusal refusal b =
-    refuse 23 (not (eqb (length b) linkLength))
+-- a link's on byte is 1 on or 0 off, else it is out of range
+unfoldable pub linkBodyRefusal : ℕ → (Link → ℕ) → List ℕ → ℕ
+linkBodyRefusal form refusal b =
+    refuse 23 (not (eqb (length b) (linkLength form)))
     (refuse 24 (ltb 1 (getD b 8 0))
     (refusal (linkIn b)))
 
@@ -102,7 +113,7 @@ questionBodyRefusal refusal b =
 unfoldable pub bodyRefusal : Refusing → ℕ → List ℕ → ℕ
 bodyRefusal r tag b =
     cond (eqb tag nodeTag) (nodeBodyRefusal (r .node) b)
-    (cond (eqb tag linkTag) (linkBodyRefusal (r .link) b)
+    (cond (isForm tag) (linkBodyRefusal tag (r .link tag) b)
     (cond (eqb tag questionTag) (questionBodyRefusal (r .question) b)
     22))
 

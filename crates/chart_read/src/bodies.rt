@@ -70,14 +70,20 @@ pub fn node_in(b: &[u8]) -> ChartNode
     }
 }
 
-// The link of a body.
+// The link of a body, which may end before the direction.
 pub fn link_in(b: &[u8]) -> Link
-    requires { ⌜ length (now b) ≡ 9 ⌝ }
+    requires { ⌜ 9 ≤ length (now b) ⌝ }
     ensures { λ r. ⌜ r ≡ linkIn (now (b .entry)) ⌝ }
 {
     let ends = &b[..8];
     let p = address_bytes::address_in(ends, 0);
     let q = address_bytes::address_in(ends, 4);
     let on = b[8] == 1;
-    Link { a: p, b: q, on: on }
+    let direction = buffer::byte_at(b, 9);
+    Link {
+        a: p,
+        b: q,
+        on: on,
+        direction: direction,
+    }
 }

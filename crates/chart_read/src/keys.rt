@@ -6,15 +6,18 @@ use crate::bodies::body_at;
 use crate::bodies::link_in;
 use crate::bodies::node_in;
 use crate::bodies::past_field;
-use crate::numbers::LINK_TAG;
 use crate::numbers::NODE_TAG;
 use crate::numbers::QUESTION_TAG;
 use crate::numbers::link_body_refusal;
 use crate::numbers::node_body_refusal;
 use crate::numbers::question_body_refusal;
+use chart::DIRECTED;
+use chart::PLAIN;
 ghost use Prim.Native.Nat.{ℕ};
+ghost use mathlib.Core.Path.{_≡_};
+ghost use mathlib.Core.Bool.{true};
 ghost use mathlib.Core.List.{List};
-ghost use Rattle.chart_read.specs.Fields.{nodeTag, linkTag, questionTag};
+ghost use Rattle.chart_read.specs.Fields.{nodeTag, questionTag, isForm};
 ghost use Rattle.chart_read.specs.Contracts.{asKeys, Takes, TakesField};
 
 // A node's body: unless it is refused, its key is stored after those before it, and it is counted.
@@ -33,23 +36,27 @@ fn take_node(keys: &mut [u32; 16], counts: Counts, b: &[u8]) -> Taken
         counts: Counts {
             nodes: n + 1,
             links: counts.links,
+            form: counts.form,
             asked: counts.asked,
         },
     }
 }
 
-// A link's body, likewise: the keys of both its ends.
+// The body of a link of this form, likewise: the keys of both its ends.
 fn take_link(
     keys: &[u32; 16],
     akeys: &mut [u32; 48],
     bkeys: &mut [u32; 48],
     counts: Counts,
+    form: u8,
     b: &[u8],
 ) -> Taken
-    ensures { λ r. ⌜ Takes (asKeys (now (keys .entry)) (now (akeys .entry)) (now (bkeys .entry)) counts) linkTag (now (b .entry)) (r .refusal) (asKeys (now (keys .entry)) (now (akeys .exit)) (now (bkeys .exit)) (r .counts)) ⌝ }
+    requires { ⌜ isForm form ≡ true ⌝ }
+    ensures { λ r. ⌜ Takes (asKeys (now (keys .entry)) (now (akeys .entry)) (now (bkeys .entry)) counts) form (now (b .entry)) (r .refusal) (asKeys (now (keys .entry)) (now (akeys .exit)) (now (bkeys .exit)) (r .counts)) ⌝ }
 {
     let m = counts.links;
-    let refusal = link_body_refusal(counts.asked, keys, counts.nodes, akeys, bkeys, m, b);
+    let late = counts.asked | ((0 < m) & (counts.form != form));
+    let refusal = link_body_refusal(late, form, keys, counts.nodes, akeys, bkeys, m, b);
     if refusal != 0 {
         return Taken { refusal, counts };
     }
@@ -61,6 +68,7 @@ fn take_link(
         counts: Counts {
             nodes: counts.nodes,
             links: m + 1,
+            form,
             asked: counts.asked,
         },
     }
@@ -79,6 +87,7 @@ fn take_question(keys: &[u32; 16], counts: Counts, b: &[u8]) -> Taken
         counts: Counts {
             nodes: counts.nodes,
             links: counts.links,
+            form: counts.form,
             asked: true,
         },
     }
@@ -108,9 +117,10 @@ pub fn take_field(
         };
     }
     let b = body_at(bytes, at);
-    match bytes[at] {
+    let tag = bytes[at];
+    match tag {
         NODE_TAG => take_node(keys, counts, b),
-        LINK_TAG => take_link(keys, akeys, bkeys, counts, b),
+        PLAIN | DIRECTED => take_link(keys, akeys, bkeys, counts, tag, b),
         QUESTION_TAG => take_question(keys, counts, b),
         _ => Taken {
             refusal: 22,

@@ -1,10 +1,13 @@
-// The chart's reader (document 01, "The chart"): tagged fields, taken one after the other.
+// The chart's reader (document 01, "The chart"; document 02, Five): tagged fields, taken one after the other.
 use bodies::body_at;
 use bodies::link_in;
 use bodies::node_in;
+use bodies::past_field;
 use chart::Chart;
+use chart::DIRECTED;
 use chart::Links;
 use chart::Nodes;
+use chart::PLAIN;
 ghost use mathlib.Core.Path.{_≡_};
 ghost use Rattle.chart_read.specs.Reading.{refusedAt, readChartOf};
 
@@ -14,12 +17,13 @@ mod numbers;
 
 pub use bodies::field_end;
 pub use keys::take_field;
-pub use numbers::LINK_LENGTH;
-pub use numbers::LINK_TAG;
+pub use numbers::DIRECTED_LENGTH;
 pub use numbers::NODE_TAG;
+pub use numbers::PLAIN_LENGTH;
 pub use numbers::QUESTION_LENGTH;
 pub use numbers::QUESTION_TAG;
 pub use numbers::SHORTEST_NODE;
+pub use numbers::link_length;
 
 // The chart, or the number of the first bad field and the place where it begins.
 pub struct ChartRead {
@@ -28,10 +32,11 @@ pub struct ChartRead {
     pub chart: Chart,
 }
 
-// How many nodes and links were taken, and whether the question was.
+// How many nodes and links were taken, the form of the links, and whether the question was.
 pub struct Counts {
     pub nodes: usize,
     pub links: usize,
+    pub form: u8,
     pub asked: bool,
 }
 
@@ -70,6 +75,7 @@ pub fn read_chart(bytes: &[u8]) -> ChartRead
     let mut counts = Counts {
         nodes: 0,
         links: 0,
+        form: PLAIN,
         asked: false,
     };
     let mut at: usize = 0;
@@ -83,10 +89,10 @@ pub fn read_chart(bytes: &[u8]) -> ChartRead
         let n = counts.nodes;
         let m = counts.links;
         counts = t.counts;
-        at = field_end(bytes, at);
+        at = past_field(bytes, at);
         match tag {
             NODE_TAG => nodes[n] = node_in(b),
-            LINK_TAG => links[m] = link_in(b),
+            PLAIN | DIRECTED => links[m] = link_in(b),
             _ => {
                 from = address_bytes::station_in(b, 0);
                 to = address_bytes::station_in(b, 3);
@@ -106,6 +112,7 @@ pub fn read_chart(bytes: &[u8]) -> ChartRead
             },
             links: Links {
                 count: counts.links as u8,
+                form: counts.form,
                 items: links,
             },
             from,

@@ -1,13 +1,13 @@
 // The number of a body, by the keys of the nodes and links before it: the first n of `keys`, the first m of `akeys` and `bkeys`.
 use crate::bodies::link_in;
 use crate::bodies::node_in;
+use chart::DIRECTED;
 ghost use mathlib.Core.Path.{_≡_};
 ghost use Rattle.chart_refuse.specs.Contracts.{nodeRefusalByKeys, linkRefusalByKeys, questionRefusalByKeys};
+ghost use Rattle.chart_read.specs.Fields.{linkLength};
 ghost use Rattle.chart_read.specs.Reading.{nodeBodyRefusal, linkBodyRefusal, questionBodyRefusal};
 
 pub const NODE_TAG: u8 = 1;
-
-pub const LINK_TAG: u8 = 2;
 
 pub const QUESTION_TAG: u8 = 3;
 
@@ -15,7 +15,9 @@ pub const SHORTEST_NODE: usize = 3;
 
 const LONGEST_NODE: usize = 27;
 
-pub const LINK_LENGTH: usize = 9;
+pub const PLAIN_LENGTH: usize = 9;
+
+pub const DIRECTED_LENGTH: usize = 10;
 
 pub const QUESTION_LENGTH: usize = 6;
 
@@ -33,9 +35,20 @@ pub fn node_body_refusal(late: bool, keys: &[u32; 16], n: usize, b: &[u8]) -> u8
     chart_refuse::node_refusal(late, keys, n, node)
 }
 
-// A link's body.
+// The length of a link's body, by its form.
+pub fn link_length(form: u8) -> usize
+    ensures { λ r. ⌜ r ≡ linkLength form ⌝ }
+{
+    if form == DIRECTED {
+        return DIRECTED_LENGTH;
+    }
+    PLAIN_LENGTH
+}
+
+// The body of a link of this form.
 pub fn link_body_refusal(
-    asked: bool,
+    late: bool,
+    form: u8,
     keys: &[u32; 16],
     n: usize,
     akeys: &[u32; 48],
@@ -43,16 +56,16 @@ pub fn link_body_refusal(
     m: usize,
     b: &[u8],
 ) -> u8
-    ensures { λ r. ⌜ r ≡ linkBodyRefusal (linkRefusalByKeys asked (now (keys .entry)) n (now (akeys .entry)) (now (bkeys .entry)) m) (now (b .entry)) ⌝ }
+    ensures { λ r. ⌜ r ≡ linkBodyRefusal form (linkRefusalByKeys late form (now (keys .entry)) n (now (akeys .entry)) (now (bkeys .entry)) m) (now (b .entry)) ⌝ }
 {
-    if b.len() != LINK_LENGTH {
+    if b.len() != link_length(form) {
         return 23;
     }
     if 1 < b[8] {
         return 24;
     }
     let l = link_in(b);
-    chart_refuse::link_refusal(asked, keys, n, akeys, bkeys, m, l)
+    chart_refuse::link_refusal(late, form, keys, n, akeys, bkeys, m, l)
 }
 
 // The question's body.

@@ -2,13 +2,14 @@
 use Prim.Native.Nat.{ℕ, zero, suc, _+_, _*_, _<_, _≤_}
 use mathlib.Core.Path.{_≡_, refl, sym, ap, ap₂, subst, _∙_}
 use mathlib.Core.List.{List}
-use mathlib.Core.Bool.{Bool, true, false, _&&_, _||_}
+use mathlib.Core.Bool.{Bool, true, false, not, _&&_, _||_}
 use native.Mathlib.Omega.{arith}
 use lib.ListN.{length, getD, set}
 use lib.Seq.{getD-set-same, getD-set-other, ext-getD}
 use lib.Dec.{eqb}
 use borrow.Author.Tests.{eqb-true, eqb-false, eq-eqb}
 use Rattle.lists.specs.Places.{anyBelow, elementAt}
+use Rattle.lists.specs.Refusals.{refuse}
 use Rattle.lists.proofs.Places.{any-agree}
 use Rattle.lists.proofs.Bools.{both-same, and-left, and-right, and-both}
 use Rattle.address.specs.declared.Station.{Station}
@@ -18,9 +19,9 @@ use Rattle.chart.specs.declared.ChartNode.{ChartNode}
 use Rattle.chart.specs.declared.Link.{Link}
 use Rattle.chart.specs.declared.Nodes.{Nodes}
 use Rattle.chart.specs.declared.Links.{Links}
-use Rattle.chart.specs.Values.{noNode, noLink, nodeAt, linkAt, standsAt, hasNode, endsAt, hasEnd}
+use Rattle.chart.specs.Values.{noNode, noLink, nodeAt, linkAt, endInRange, directionInRange, linkInRange, standsAt, hasNode, endsAt, hasEnd}
 use Rattle.chart.specs.Refusals.{nodeRefusalBy, linkRefusalBy, questionRefusalBy, nodeRefusal, linkRefusal, questionRefusal}
-use Rattle.chart_refuse.specs.Contracts.{stationKey, endKey, KeysOf, StationKeyed, EndKeyed, KeyedNodes, KeyedLinks, keyIs, known, usedBy, nodeRefusalByKeys, linkRefusalByKeys, questionRefusalByKeys}
+use Rattle.chart_refuse.specs.Contracts.{stationKey, endKey, KeysOf, StationKeyed, EndKeyed, KeyedNodes, KeyedLinks, keyIs, known, usedBy, nodeRefusalByKeys, linkRefusalByKeys, endsRefusalByKeys, questionRefusalByKeys}
 
 -- ---- as the code has them: with the key at hand
 
@@ -115,10 +116,29 @@ module _ (ns : Nodes) (keys : List ℕ) (h : KeyedNodes ns keys) where
     either-keyed : (l : Link) (j k : ℕ) → EndKeyed (l .a) j → EndKeyed (l .b) k → (usedBy akeys bkeys (ls .count) (l .a) || usedBy akeys bkeys (ls .count) (l .b)) ≡ (hasEnd ls (l .a) || hasEnd ls (l .b))
     either-keyed l j k ha hb = ap₂ _||_ (used-keyed (l .a) j ha) (used-keyed (l .b) k hb)
 
-    pub link-keyed : (late : Bool) (l : Link) (j k : ℕ) → EndKeyed (l .a) j → EndKeyed (l .b) k
-        → linkRefusalByKeys late keys (ns .count) akeys bkeys (ls .count) l ≡ linkRefusal late ns ls l
+    pub link-keyed : (late : Bool) (form : ℕ) (l : Link) (j k : ℕ) → EndKeyed (l .a) j → EndKeyed (l .b) k
+        → linkRefusalByKeys late form keys (ns .count) akeys bkeys (ls .count) l ≡ linkRefusal late form ns ls l
     unfolding linkRefusalByKeys linkRefusal linkRefusalBy
-    link-keyed late l j k ha hb = rw (both-keyed (stationOf (l .a)) (stationOf (l .b)) (ha .node) (hb .node), either-keyed l j k ha hb)
+    link-keyed late form l j k ha hb = rw (both-keyed (stationOf (l .a)) (stationOf (l .b)) (ha .node) (hb .node), either-keyed l j k ha hb)
+
+-- ---- the direction, then the ends
+
+split : (x y way : Bool) (k : ℕ) → refuse 24 (not (x && y && way)) k ≡ refuse 24 (not way) (refuse 24 (not (x && y && true)) k)
+split x y true k = refl
+split true true false k = refl
+split true false false k = refl
+split false y false k = refl
+
+-- a plain link both ways is in range where its ends are
+pub ends-alone : (x y : Bool) → (x && y && true) ≡ (x && y)
+ends-alone true true = refl
+ends-alone true false = refl
+ends-alone false y = refl
+
+pub direction-first : (late : Bool) (form : ℕ) (keys : List ℕ) (n : ℕ) (akeys bkeys : List ℕ) (m : ℕ) (l : Link)
+    → linkRefusalByKeys late form keys n akeys bkeys m l ≡ refuse 24 (not (directionInRange form (l .direction))) (endsRefusalByKeys late keys n akeys bkeys m (l .a) (l .b))
+unfolding endsRefusalByKeys linkRefusalByKeys linkRefusalBy linkInRange directionInRange
+direction-first late form keys n akeys bkeys m l = split (endInRange (l .a)) (endInRange (l .b)) (directionInRange form (l .direction)) _
 
 -- ---- one more
 
@@ -141,11 +161,11 @@ pub keyed-node : (ns : Nodes) (keys : List ℕ) → KeyedNodes ns keys → (n : 
 unfolding nodeAt elementAt
 keyed-node ns keys h n k e hi hk = keyed-set (λ (x : ChartNode) (j : ℕ). StationKeyed (x .station) j) noNode (ns .items) keys (ns .count) n k hi hk e h
 
-pub keyed-link : (ls : Links) (akeys bkeys : List ℕ) → KeyedLinks ls akeys bkeys → (l : Link) (j k : ℕ) → EndKeyed (l .a) j → EndKeyed (l .b) k → ls .count < length (ls .items)
+pub keyed-link : (ls : Links) (akeys bkeys : List ℕ) → KeyedLinks ls akeys bkeys → (form : ℕ) (l : Link) (j k : ℕ) → EndKeyed (l .a) j → EndKeyed (l .b) k → ls .count < length (ls .items)
     → ls .count < length akeys → ls .count < length bkeys
-    → KeyedLinks (record { count = ls .count + 1; items = set (ls .items) (ls .count) l }) (set akeys (ls .count) j) (set bkeys (ls .count) k)
+    → KeyedLinks (record { count = ls .count + 1; form = form; items = set (ls .items) (ls .count) l }) (set akeys (ls .count) j) (set bkeys (ls .count) k)
 unfolding linkAt elementAt
-keyed-link ls akeys bkeys h l j k a b hi hn hf =
+keyed-link ls akeys bkeys h form l j k a b hi hn hf =
     record {
       a = keyed-set (λ (x : Link) (y : ℕ). EndKeyed (x .a) y) noLink (ls .items) akeys (ls .count) l j hi hn a (h .a);
       b = keyed-set (λ (x : Link) (y : ℕ). EndKeyed (x .b) y) noLink (ls .items) bkeys (ls .count) l k hi hf b (h .b);

@@ -31,11 +31,11 @@ node-refusal-read ns keys h d i l m =
     ∙ node-keyed (nodesBefore ns i) keys (λ j k. h j (omega arith)) false (nodeAt ns i) (h i l .node)
 
 pub link-refusal-read : (ns : Nodes) (keys : List ℕ) → KeyedNodes ns keys → (ls : Links) (akeys bkeys : List ℕ) → KeyedLinks ls akeys bkeys → (d : Link) (i : ℕ) → i < ls .count → i < length (ls .items)
-    → linkRefusalByKeys false keys (ns .count) akeys bkeys i (getD (ls .items) i d) ≡ linkRefusalAt ns ls i
+    → linkRefusalByKeys false (ls .form) keys (ns .count) akeys bkeys i (getD (ls .items) i d) ≡ linkRefusalAt ns ls i
 unfolding linkRefusalAt linkAt
 link-refusal-read ns keys h ls akeys bkeys g d i l m =
-    ap (linkRefusalByKeys false keys (ns .count) akeys bkeys i) (link-read ls d i m)
-    ∙ link-keyed ns keys h (linksBefore ls i) akeys bkeys (record { a = λ j k. g .a j (omega arith); b = λ j k. g .b j (omega arith) }) false (linkAt ls i) _ _ (g .a i l) (g .b i l)
+    ap (linkRefusalByKeys false (ls .form) keys (ns .count) akeys bkeys i) (link-read ls d i m)
+    ∙ link-keyed ns keys h (linksBefore ls i) akeys bkeys (record { a = λ j k. g .a j (omega arith); b = λ j k. g .b j (omega arith) }) false (ls .form) (linkAt ls i) _ _ (g .a i l) (g .b i l)
 
 -- ---- a chart whose number is 0
 
@@ -66,6 +66,6 @@ pub node-of : (c : Chart) → Passed c → (i : ℕ) → i < c .nodes .count →
 unfolding nodeRefusalAt
 node-of c p i h = node-passed false _ _ (refusal-zero (nodeRefusalAt (c .nodes)) (c .nodes .count) i (p .nodes) h)
 
-pub link-of : (c : Chart) → Passed c → (i : ℕ) → i < c .links .count → LinkPassed false (c .nodes) (linksBefore (c .links) i) (linkAt (c .links) i)
+pub link-of : (c : Chart) → Passed c → (i : ℕ) → i < c .links .count → LinkPassed false (c .links .form) (c .nodes) (linksBefore (c .links) i) (linkAt (c .links) i)
 unfolding linkRefusalAt
-link-of c p i h = link-passed false _ _ _ (refusal-zero (linkRefusalAt (c .nodes) (c .links)) (c .links .count) i (p .links) h)
+link-of c p i h = link-passed false _ _ _ _ (refusal-zero (linkRefusalAt (c .nodes) (c .links)) (c .links .count) i (p .links) h)

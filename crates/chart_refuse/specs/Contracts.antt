@@ -2,7 +2,7 @@
 use Prim.Native.Nat.{ℕ, _+_, _*_, _<_, _≤_}
 use mathlib.Core.Path.{_≡_}
 use mathlib.Core.List.{List}
-use mathlib.Core.Bool.{Bool, _||_}
+use mathlib.Core.Bool.{Bool, false, _||_}
 use lib.ListN.{length, getD}
 use lib.Dec.{eqb}
 use Rattle.lists.specs.Places.{anyBelow}
@@ -12,7 +12,7 @@ use Rattle.chart.specs.declared.ChartNode.{ChartNode}
 use Rattle.chart.specs.declared.Link.{Link}
 use Rattle.chart.specs.declared.Nodes.{Nodes}
 use Rattle.chart.specs.declared.Links.{Links}
-use Rattle.chart.specs.Values.{mostNodes, nodeAt, linkAt}
+use Rattle.chart.specs.Values.{plain, bothWays, mostNodes, nodeAt, linkAt}
 use Rattle.chart.specs.Refusals.{nodeRefusalBy, linkRefusalBy, questionRefusalBy}
 
 -- the three bytes of a station as one number, the four of an end
@@ -65,8 +65,15 @@ usedBy akeys bkeys m e = anyBelow (keyIs akeys (endKey e)) m || anyBelow (keyIs 
 unfoldable pub nodeRefusalByKeys : Bool → List ℕ → ℕ → ChartNode → ℕ
 nodeRefusalByKeys late keys n x = nodeRefusalBy late n (known keys n) x
 
-unfoldable pub linkRefusalByKeys : Bool → List ℕ → ℕ → List ℕ → List ℕ → ℕ → Link → ℕ
-linkRefusalByKeys late keys n akeys bkeys m l = linkRefusalBy late n m (known keys n) (usedBy akeys bkeys m) l
+unfoldable pub linkRefusalByKeys : Bool → ℕ → List ℕ → ℕ → List ℕ → List ℕ → ℕ → Link → ℕ
+linkRefusalByKeys late form keys n akeys bkeys m l = linkRefusalBy late form n m (known keys n) (usedBy akeys bkeys m) l
+
+-- a plain link between two ends, and its number: what is left of a link's number once its direction is in range
+abbrev pub plainLink : Address → Address → Link
+plainLink a b = record { a = a; b = b; on = false; direction = bothWays }
+
+unfoldable pub endsRefusalByKeys : Bool → List ℕ → ℕ → List ℕ → List ℕ → ℕ → Address → Address → ℕ
+endsRefusalByKeys late keys n akeys bkeys m a b = linkRefusalByKeys late plain keys n akeys bkeys m (plainLink a b)
 
 unfoldable pub questionRefusalByKeys : Bool → List ℕ → ℕ → Station → Station → ℕ
 questionRefusalByKeys late keys n from to = questionRefusalBy late n (known keys n) from to

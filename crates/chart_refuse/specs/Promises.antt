@@ -10,9 +10,9 @@ use Rattle.chart.specs.declared.Chart.{Chart}
 use Rattle.chart.specs.Values.{nodeAt, linkAt, nodeInRange, linkInRange, hasNode, hasEnd}
 use Rattle.chart_refuse.specs.Refusal.{nodesBefore, linksBefore, chartRefusal}
 
--- both ends of a link are in range, stand at nodes of the chart, and at two different ones; no earlier link has either of them
+-- both ends of a link and its direction are in range; the ends stand at nodes of the chart, and at two different ones; no earlier link has either of them
 pub record Joins (ns : Nodes) (ls : Links) (i : ℕ) : Type 0 where
-  pub ranged : linkInRange (linkAt ls i) ≡ true
+  pub ranged : linkInRange (ls .form) (linkAt ls i) ≡ true
   pub a : hasNode ns (stationOf (linkAt ls i .a)) ≡ true
   pub b : hasNode ns (stationOf (linkAt ls i .b)) ≡ true
   pub apart : sameStation (stationOf (linkAt ls i .a)) (stationOf (linkAt ls i .b)) ≡ false

@@ -1,4 +1,4 @@
--- The number of a chart given as values (document 01, "The chart"): the counts first, then the number of the first bad value. 0 where it is accepted.
+-- The number of a chart given as values (document 01, "The chart"; document 02, Five): the counts first, then the number of the first bad value. 0 where it is accepted.
 use Prim.Native.Nat.{ℕ}
 use mathlib.Core.Bool.{false}
 use lib.Dec.{ltb}
@@ -15,7 +15,7 @@ abbrev pub nodesBefore : Nodes → ℕ → Nodes
 nodesBefore ns i = record { count = i; items = ns .items }
 
 abbrev pub linksBefore : Links → ℕ → Links
-linksBefore ls i = record { count = i; items = ls .items }
+linksBefore ls i = record { count = i; form = ls .form; items = ls .items }
 
 -- the number of the node at a place, after those before it
 unfoldable pub nodeRefusalAt : Nodes → ℕ → ℕ
@@ -23,7 +23,7 @@ nodeRefusalAt ns i = nodeRefusal false (nodesBefore ns i) (nodeAt ns i)
 
 -- the number of the link at a place, after all nodes and the links before it
 unfoldable pub linkRefusalAt : Nodes → Links → ℕ → ℕ
-linkRefusalAt ns ls i = linkRefusal false ns (linksBefore ls i) (linkAt ls i)
+linkRefusalAt ns ls i = linkRefusal false (ls .form) ns (linksBefore ls i) (linkAt ls i)
 
 -- the first bad value decides: nodes, then links, then the question
 unfoldable pub chartValuesRefusal : Chart → ℕ

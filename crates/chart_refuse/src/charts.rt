@@ -65,7 +65,16 @@ fn links_refusal(
     let mut i: usize = 0;
     while i < m {
         let l = links.items[i];
-        let k = link_refusal(false, keys, nodes.count as usize, akeys, bkeys, i, l);
+        let k = link_refusal(
+            false,
+            links.form,
+            keys,
+            nodes.count as usize,
+            akeys,
+            bkeys,
+            i,
+            l,
+        );
         if k != 0 {
             return k;
         }

@@ -47,9 +47,9 @@ module _ (ns ms : Nodes) (e : SameNodes ns ms) where
         any-agree (endsAt ls a) (endsAt ks a) (ls .count) (λ i h. ap (λ (l : Link). sameAddress (l .a) a || sameAddress (l .b) a) (f .links i h))
         ∙ ap (anyBelow (endsAt ks a)) (f .count)
 
-    pub link-agree : (late : Bool) (l : Link) → linkRefusal late ns ls l ≡ linkRefusal late ms ks l
+    pub link-agree : (late : Bool) (form : ℕ) (l : Link) → linkRefusal late form ns ls l ≡ linkRefusal late form ms ks l
     unfolding linkRefusal
-    link-agree late l = λ i. linkRefusalBy late (e .count i) (f .count i) (λ (s : Station). written-agree s i) (λ (a : Address). used-agree a i) l
+    link-agree late form l = λ i. linkRefusalBy late form (e .count i) (f .count i) (λ (s : Station). written-agree s i) (λ (a : Address). used-agree a i) l
 
 -- a node's own number goes by its station, its label's length and whether the label is in range
 pub node-like : (late : Bool) (ns : Nodes) (n m : ChartNode) → n .station ≡ m .station → ltb 24 (n .length) ≡ ltb 24 (m .length)

@@ -61,7 +61,7 @@ module _ (ns : Nodes) where
 
   bare-link : (ls : Links) (i : ℕ) → linkRefusalAt ns ls i ≡ linkRefusalAt (bare ns) ls i
   unfolding linkRefusalAt
-  bare-link ls i = link-agree ns (bare ns) bare-same (linksBefore ls i) (linksBefore ls i) (record { count = refl; links = λ j h. refl }) false (linkAt ls i)
+  bare-link ls i = link-agree ns (bare ns) bare-same (linksBefore ls i) (linksBefore ls i) (record { count = refl; links = λ j h. refl }) false (ls .form) (linkAt ls i)
 
 pub labels-are-ink : LabelsAreInk
 unfolding chartRefusal chartValuesRefusal unlabelled bare

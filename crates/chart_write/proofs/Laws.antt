@@ -1,11 +1,14 @@
 -- Laws of the writer: how long its fields are, what its loops store, and its answer.
 use Prim.Native.Nat.{ℕ, _+_, _*_, _<_, _≤_}
 use mathlib.Core.Path.{_≡_, refl, sym, ap, ap₂, _∙_}
-use mathlib.Core.List.{List, _∷_, _++_, append-assoc}
+use mathlib.Core.List.{List, [], _∷_, _++_, append-assoc}
+use mathlib.Core.Bool.{Bool, true, false, cond}
+use native.Mathlib.Nat.{mul-suc, mul-le-mul, mul-le-mul-left}
 use native.Mathlib.Omega.{arith}
-use lib.ListN.{length, getD, drop, length-append}
+use lib.ListN.{length, getD, take, drop, length-append}
+use lib.Dec.{eqb}
 use lib.Seq.{sets}
-use borrow.Author.Tests.{lt-ltb, le-ltb}
+use borrow.Author.Tests.{lt-ltb, le-ltb, eq-eqb, ne-eqb}
 use Rattle.lists.specs.Places.{elementAt, firsts, joined}
 use Rattle.lists.specs.Refusals.{unlessRefused}
 use Rattle.buffer.specs.Bytes.{wordBytes}
@@ -18,17 +21,18 @@ use Rattle.lists.proofs.Stores.{sets-append, sets-front}
 use Rattle.lists.proofs.Runs.{length-joined-next, joined-within, joined-most}
 use Rattle.buffer.proofs.Writing.{wrote-refusal, wrote-count, wrote-taken, wrote-refused}
 use Rattle.address.specs.declared.Station.{Station}
-use Rattle.address_bytes.specs.Wide.{stationBytes}
+use Rattle.address_bytes.specs.Wide.{stationBytes, addressBytes}
 use Rattle.chart.specs.declared.ChartNode.{ChartNode}
 use Rattle.chart.specs.declared.Link.{Link}
 use Rattle.chart.specs.declared.Nodes.{Nodes}
 use Rattle.chart.specs.declared.Links.{Links}
 use Rattle.chart.specs.declared.Chart.{Chart}
-use Rattle.chart.specs.Values.{longestLabel, nodeAt, linkAt}
+use Rattle.chart.specs.Values.{mostLinks, longestLabel, nodeAt, linkAt}
 use Rattle.chart.proofs.Laws.{node-read}
 use Rattle.chart_refuse.specs.Refusal.{chartRefusal}
-use Rattle.chart_read.specs.Fields.{nodeTag, linkTag, questionTag, shortestNode, longestNode, linkLength, questionLength, tagged}
-use Rattle.chart_write.specs.Writing.{nodeBody, linkBody, questionBody, nodeField, linkField, questionField, headSize, linkFieldSize, questionFieldSize, longestNodeField, chartBytes, chartWriteRefusal, writeChartOf, chartAfter}
+use Rattle.chart_read.specs.Fields.{nodeTag, questionTag, shortestNode, longestNode, directedLength, linkLength, questionLength, tagged}
+use Rattle.chart_read.proofs.Laws.{link-length-bounds}
+use Rattle.chart_write.specs.Writing.{nodeBody, onByte, directionBytes, linkBody, questionBody, nodeField, linkField, questionField, headSize, linkFieldSize, questionFieldSize, longestNodeField, chartBytes, chartWriteRefusal, writeChartOf, chartAfter}
 use Rattle.chart_write.specs.Contracts.{Short}
 use Rattle.chart_refuse.proofs.Laws.{passed, node-of}
 
@@ -50,13 +54,53 @@ length-node n = length-tagged nodeTag (nodeBody n)
 pub nodes-most : (ns : Nodes) (n : ℕ) → ((i : ℕ) → i < n → nodeAt ns i .length ≤ longestLabel) → length (joined nodeField (nodeAt ns) n) ≤ longestNodeField * n
 nodes-most ns n h = joined-most nodeField (nodeAt ns) longestNodeField n (λ i l. omega (arith, h i l, length-node (nodeAt ns i), length-node-body (nodeAt ns i)))
 
-pub length-link-body : (l : Link) → length (linkBody l) ≡ linkLength
-unfolding linkBody
-length-link-body l = refl
+-- a link's body in a form: the directed one's, as long as the form says
+module _ (l : Link) where
+  abbrev body : Bool → List ℕ
+  body d = addressBytes (l .a) ++ addressBytes (l .b) ++ (onByte (l .on) ∷ cond d (l .direction ∷ []) [])
 
-pub length-link : (l : Link) → length (linkField l) ≡ linkFieldSize
+  long : (d : Bool) → length (body d) ≡ cond d 10 9
+  long true = refl
+  long false = refl
+
+  cut : (d : Bool) → take (cond d 10 9) (body true) ≡ body d
+  cut true = refl
+  cut false = refl
+
+  pub length-link-body : (form : ℕ) → length (linkBody form l) ≡ linkLength form
+  unfolding linkBody directionBytes linkLength
+  length-link-body form = long (eqb form 4)
+
+  pub body-cut : (form : ℕ) → take (linkLength form) (linkBody 4 l) ≡ linkBody form l
+  unfolding linkBody directionBytes linkLength
+  body-cut form = cut (eqb form 4)
+
+  pub directed-long : length (linkBody 4 l) ≡ 10
+  unfolding linkBody directionBytes
+  directed-long = refl
+
+-- the length by the form
+pub directed-length : (form : ℕ) → form ≡ 4 → linkLength form ≡ 10
+unfolding linkLength
+directed-length form e = rw (eq-eqb form 4 e)
+
+pub plain-length : (form : ℕ) → (form ≡ 4 → ⊥) → linkLength form ≡ 9
+unfolding linkLength
+plain-length form n = rw (ne-eqb form 4 n)
+
+pub length-link : (form : ℕ) (l : Link) → length (linkField form l) ≡ linkFieldSize form
 unfolding linkField
-length-link l = length-tagged linkTag (linkBody l) ∙ ap (λ (n : ℕ). headSize + n) (length-link-body l)
+length-link form l = length-tagged form (linkBody form l) ∙ ap (λ (n : ℕ). headSize + n) (length-link-body l form)
+
+-- fields of one size: where all fit the next does, and 48 have at most 624 bytes
+size-within : (w i n : ℕ) → i < n → w * i + w ≤ w * n
+size-within w i n h = rw (sym (mul-suc w i)) (mul-le-mul-left w h)
+
+pub next-fits : (form : ℕ) {size : ℕ} (at i n room : ℕ) → size ≡ linkFieldSize form → i < n → at + linkFieldSize form * n ≤ room → at + size * i + size ≤ room
+next-fits form at i n room e h k = rw e (omega (arith, size-within (linkFieldSize form) i n h))
+
+pub size-most : (w i : ℕ) → w ≤ headSize + directedLength → i ≤ mostLinks → w * i ≤ 624
+size-most w i h k = mul-le-mul h k
 
 pub length-question-body : (from to : Station) → length (questionBody from to) ≡ questionLength
 unfolding questionBody
@@ -66,17 +110,25 @@ pub length-question : (from to : Station) → length (questionField from to) ≡
 unfolding questionField
 length-question from to = length-tagged questionTag (questionBody from to) ∙ ap (λ (n : ℕ). headSize + n) (length-question-body from to)
 
-pub length-links : (ls : Links) (n : ℕ) → length (joined linkField (linkAt ls) n) ≡ linkFieldSize * n
-length-links ls n = length-joined linkField linkFieldSize length-link (linkAt ls) n
+pub length-links : (form : ℕ) (ls : Links) (n : ℕ) → length (joined (linkField form) (linkAt ls) n) ≡ linkFieldSize form * n
+length-links form ls n = length-joined (linkField form) (linkFieldSize form) (length-link form) (linkAt ls) n
+
+pub links-few : (form n : ℕ) → n ≤ mostLinks → linkFieldSize form * n ≤ 624
+links-few form n h = size-most (linkFieldSize form) n (omega (arith, link-length-bounds form .1)) h
 
 pub length-chart : (c : Chart)
-    → length (chartBytes c) ≡ length (joined nodeField (nodeAt (c .nodes)) (c .nodes .count)) + linkFieldSize * c .links .count + questionFieldSize
+    → length (chartBytes c) ≡ length (joined nodeField (nodeAt (c .nodes)) (c .nodes .count)) + linkFieldSize (c .links .form) * c .links .count + questionFieldSize
 unfolding chartBytes
 length-chart c =
     let N = joined nodeField (nodeAt (c .nodes)) (c .nodes .count) in
-    let L = joined linkField (linkAt (c .links)) (c .links .count) in
+    let L = joined (linkField (c .links .form)) (linkAt (c .links)) (c .links .count) in
     let Q = questionField (c .from) (c .to) in
-    omega (arith, length-append N (L ++ Q), length-append L Q, length-links (c .links) (c .links .count), length-question (c .from) (c .to))
+    omega (arith, length-append N (L ++ Q), length-append L Q, length-links (c .links .form) (c .links) (c .links .count), length-question (c .from) (c .to))
+
+-- where the question's field begins, and where it ends
+pub chart-end : (c : Chart) {at size : ℕ} → at ≡ length (joined nodeField (nodeAt (c .nodes)) (c .nodes .count)) → size ≡ linkFieldSize (c .links .form)
+    → at + size * c .links .count + questionFieldSize ≡ length (chartBytes c)
+chart-end c {at} e f = ap (λ (w : ℕ). at + w * c .links .count + questionFieldSize) f ∙ omega (arith, e, length-chart c)
 
 -- ---- what a loop reads and stores at a place
 
@@ -174,18 +226,20 @@ node-put n long l m o p s at k f e g h = field-put nodeTag (nodeBody n) l m p at
         ∙ sets-append (stationBytes (n .station)) m (at + headSize) label (at + headSize + shortestNode) refl
 
 -- the parts of a chart, one after the other
-pub chart-put : (c : Chart) (l m o p b : List ℕ) (at : ℕ) → at ≡ length (joined nodeField (nodeAt (c .nodes)) (c .nodes .count))
+pub chart-put : (c : Chart) (l m o p b : List ℕ) (at size : ℕ) → at ≡ length (joined nodeField (nodeAt (c .nodes)) (c .nodes .count))
     → m ≡ sets l 0 (joined nodeField (nodeAt (c .nodes)) (c .nodes .count))
-    → o ≡ sets m at (joined linkField (linkAt (c .links)) (c .links .count))
+    → o ≡ sets m at (joined (linkField (c .links .form)) (linkAt (c .links)) (c .links .count))
+    → size ≡ linkFieldSize (c .links .form)
     → b ≡ questionBody (c .from) (c .to)
-    → p ≡ sets o (at + linkFieldSize * c .links .count) (tagged questionTag b)
+    → p ≡ sets o (at + size * c .links .count) (tagged questionTag b)
     → p ≡ sets l 0 (chartBytes c)
 unfolding chartBytes questionField
-chart-put c l m o p b at e f g h k =
+chart-put c l m o p b at size e f g w h k =
     let N = joined nodeField (nodeAt (c .nodes)) (c .nodes .count) in
-    let L = joined linkField (linkAt (c .links)) (c .links .count) in
+    let L = joined (linkField (c .links .form)) (linkAt (c .links)) (c .links .count) in
     let Q = questionField (c .from) (c .to) in
-    let next = at + linkFieldSize * c .links .count in
+    let next = at + size * c .links .count in
+    let n : size * c .links .count ≡ length L = ap (λ (x : ℕ). x * c .links .count) w ∙ sym (length-links (c .links .form) (c .links) (c .links .count)) in
     k ∙ ap₂ (λ (x y : List ℕ). sets x next (tagged questionTag y)) (g ∙ ap (λ (x : List ℕ). sets x at L) f ∙ sets-append N l 0 L at (omega arith)) h
-    ∙ sets-append (N ++ L) l 0 Q next (omega (arith, length-append N L, length-links (c .links) (c .links .count)))
+    ∙ sets-append (N ++ L) l 0 Q next (omega (arith, length-append N L))
     ∙ ap (sets l 0) (append-assoc N L Q)

@@ -17,8 +17,8 @@ use Rattle.chart.specs.declared.Chart.{Chart}
 use Rattle.chart.specs.Values.{nodeAt, linkAt, nodeInRange, linkInRange, hasNode, hasEnd}
 use Rattle.chart.specs.Refusals.{nodeRefusalBy, linkRefusalBy, questionRefusalBy, nodeRefusal, linkRefusal, questionRefusal}
 use Rattle.chart_read.specs.declared.ChartRead.{ChartRead}
-use Rattle.chart_read.specs.Fields.{linkLength, questionLength, tagAt, bodyAt, pastField, cutShort, nodeIn, linkIn}
-use Rattle.chart_read.specs.Reading.{SoFar, nothing, nodeLate, refusing, nodeBodyRefusal, linkBodyRefusal, questionBodyRefusal, bodyRefusal, fieldRefusal, refusedAt, atEnd, onward, walk, readChartOf}
+use Rattle.chart_read.specs.Fields.{isForm, linkLength, questionLength, tagAt, bodyAt, pastField, cutShort, nodeIn, linkIn}
+use Rattle.chart_read.specs.Reading.{SoFar, nothing, nodeLate, linkLate, linkAfter, refusing, nodeBodyRefusal, linkBodyRefusal, questionBodyRefusal, bodyRefusal, fieldRefusal, refusedAt, atEnd, onward, walk, readChartOf}
 use Rattle.chart_read.proofs.Walking.{heldPast}
 use Rattle.chart_refuse.specs.Refusal.{nodesBefore, linksBefore, nodeRefusalAt, linkRefusalAt, chartValuesRefusal, chartRefusal}
 use Rattle.chart_write.specs.Writing.{chartBytes, chartWriteRefusal}
@@ -45,7 +45,7 @@ link-given : (ns : Nodes) (ls : Links) (i : ℕ) → Given W (linkRefusalAt ns l
 unfolding linkRefusalAt linkRefusal linkRefusalBy
 link-given ns ls i =
     let l = linkAt ls i in
-    tested W 24 (not (linkInRange l)) refl
+    tested W 24 (not (linkInRange (ls .form) l)) refl
     (tested W 26 (ltb 16 (ns .count)) refl
     (tested W 26 (leb 48 i) refl
     (tested W 28 (not (hasNode ns (stationOf (l .a)) && hasNode ns (stationOf (l .b)))) refl
@@ -96,16 +96,16 @@ module _ (s : SoFar) (b : List ℕ) where
       (tested R 26 (leb 16 (s .chart .nodes .count)) refl
       (tested R 27 (hasNode (s .chart .nodes) (n .station)) refl none-read))))))
 
-  link-read-given : Given R (linkBodyRefusal (refusing s .link) b)
-  unfolding linkBodyRefusal refusing linkRefusal linkRefusalBy
-  link-read-given =
+  link-read-given : (form : ℕ) → Given R (linkBodyRefusal form (refusing s .link form) b)
+  unfolding linkBodyRefusal refusing linkAfter linkRefusal linkRefusalBy
+  link-read-given form =
       let l = linkIn b in
       let ns = s .chart .nodes in
       let ls = s .chart .links in
-      tested R 23 (not (eqb (length b) linkLength)) refl
+      tested R 23 (not (eqb (length b) (linkLength form))) refl
       (tested R 24 (ltb 1 (getD b 8 0)) refl
-      (tested R 24 (not (linkInRange l)) refl
-      (tested R 25 (s .asked) refl
+      (tested R 24 (not (linkInRange form l)) refl
+      (tested R 25 (linkLate s form) refl
       (tested R 26 (ltb 16 (ns .count)) refl
       (tested R 26 (leb 48 (ls .count)) refl
       (tested R 28 (not (hasNode ns (stationOf (l .a)) && hasNode ns (stationOf (l .b)))) refl
@@ -126,7 +126,7 @@ module _ (s : SoFar) (b : List ℕ) where
   body-given : (tag : ℕ) → Given R (bodyRefusal (refusing s) tag b)
   unfolding bodyRefusal
   body-given tag =
-      chosen R (eqb tag 1) node-read-given (chosen R (eqb tag 2) link-read-given (chosen R (eqb tag 3) question-read-given (record { is = refl })))
+      chosen R (eqb tag 1) node-read-given (chosen R (isForm tag) (link-read-given tag) (chosen R (eqb tag 3) question-read-given (record { is = refl })))
 
 field-given : (s : SoFar) (bytes : List ℕ) (at : ℕ) → Given R (fieldRefusal (refusing s) bytes at)
 unfolding fieldRefusal

@@ -11,16 +11,18 @@ use Rattle.buffer.specs.declared.Written.the-variants.{Wrote}
 use Rattle.lists.proofs.Refusals.{taken, or-pass}
 use Rattle.buffer.proofs.Writing.{wrote-size, wrote-taken}
 use Rattle.chart.specs.declared.Chart.{Chart}
+use Rattle.chart.specs.Values.{linkAt}
 use Rattle.chart_read.specs.Reading.{readChartOf}
 use Rattle.chart_refuse.specs.Refusal.{chartValuesRefusal, chartRefusal}
 use Rattle.chart_write.specs.Writing.{longestChart, chartBytes, chartWriteRefusal, writeChartOf, chartAfter, tidy}
 use Rattle.chart_write.specs.Promises.{ChartReadUndoesWrite, ChartWriteUndoesRead, ChartsShort, PlacesNear, SameRefusal}
-use Rattle.chart_refuse.proofs.Laws.{passed, node-of}
-use Rattle.chart_write.proofs.Laws.{nodes-most, length-chart, refusal-none}
+use Rattle.chart_refuse.proofs.Laws.{passed, node-of, link-of}
+use Rattle.chart_write.proofs.Laws.{nodes-most, links-few, length-chart, refusal-none}
+use Rattle.chart_write.proofs.Forms.{in-range-said, all-said}
 use Rattle.chart_write.proofs.ReadWhole.{read-written}
 use Rattle.chart_write.proofs.WriteBack.{read-good}
 
--- an accepted chart has at most 1,065 bytes
+-- an accepted chart has at most 1,113 bytes
 pub chart-short : ChartsShort
 chart-short c z =
     let p = passed c z in
@@ -29,7 +31,7 @@ chart-short c z =
       length-chart c,
       nodes-most (c .nodes) (c .nodes .count) (λ i h. node-of c p i h .short),
       p .few-nodes,
-      p .few-links,
+      links-few (c .links .form) (c .links .count) (p .few-links),
     )
 
 -- within the limits the counts refuse nothing
@@ -38,12 +40,12 @@ unfolding chartRefusal
 counted c n l = rw (le-ltb 16 (c .nodes .count) n, le-ltb 48 (c .links .count) l)
 
 pub same-refusal : SameRefusal
-same-refusal c n l = read-written c n l .0 ∙ sym (counted c n l)
+same-refusal c n l s = read-written c n l (all-said (c .links) s) .0 ∙ sym (counted c n l)
 
 pub read-back : (c : Chart) → chartRefusal c ≡ 0 → readChartOf (chartBytes c) ≡ record { refusal = 0; place = 0; chart = tidy c }
 read-back c z =
     let p = passed c z in
-    read-written c (p .few-nodes) (p .few-links) .1 (sym (counted c (p .few-nodes) (p .few-links)) ∙ z)
+    read-written c (p .few-nodes) (p .few-links) (λ i h. in-range-said (c .links .form) (linkAt (c .links) i) (link-of c p i h .ranged)) .1 (sym (counted c (p .few-nodes) (p .few-links)) ∙ z)
 
 -- reading undoes writing, of whatever the writer takes
 pub read-undoes-write : ChartReadUndoesWrite
@@ -61,7 +63,7 @@ unfolding writeChartOf chartAfter
 write-undoes-read bytes s h out room =
     let c = readChartOf bytes .chart in
     let u = read-good bytes s .undone h in
-    let z : chartRefusal c ≡ 0 = sym (same-refusal c (u .few-nodes) (u .few-links)) ∙ ap (λ (b : List ℕ). readChartOf b .refusal) (u .same) ∙ h in
+    let z : chartRefusal c ≡ 0 = counted c (u .few-nodes) (u .few-links) ∙ sym (read-written c (u .few-nodes) (u .few-links) (u .said) .0) ∙ ap (λ (b : List ℕ). readChartOf b .refusal) (u .same) ∙ h in
     let l : length (chartBytes c) ≡ length bytes = ap length (u .same) in
     let e = refusal-none c (length out) z (omega arith) in
     record {
@@ -71,6 +73,6 @@ write-undoes-read bytes s h out room =
       short = omega (arith, chart-short c z);
     }
 
--- a refusal's place is at most 1,065, however long the input
+-- a refusal's place is at most 1,113, however long the input
 pub place-near : PlacesNear
 place-near bytes s = read-good bytes s .near

@@ -1,15 +1,15 @@
 -- Reading undoes writing: the fields of a chart are read one after the other, and what is then held is the chart's first nodes and links.
 use Prim.Native.Nat.{ℕ, zero, suc, _+_, _-_, _<_, _≤_}
 use mathlib.Core.Path.{_≡_, refl, sym, ap, ap₂, subst, _∙_}
-use mathlib.Core.List.{List, [], _++_, append-assoc}
-use mathlib.Core.Bool.{Bool, true, false}
+use mathlib.Core.List.{List, [], _∷_, _++_, append-assoc}
+use mathlib.Core.Bool.{Bool, true, false, cond}
 use native.Mathlib.Nat.{div-add-mod'}
 use native.Mathlib.Numerals.{add-one}
 use native.Mathlib.Omega.{arith}
 use lib.ListN.{length, getD}
 use lib.Seq.{getD-append-add}
 use lib.Dec.{ltb, eqb}
-use borrow.Author.Tests.{lt-ltb, le-ltb, ltb-true, ltb-false}
+use borrow.Author.Tests.{lt-ltb, le-ltb, ltb-true, ltb-false, eq-eqb}
 use Rattle.lists.specs.Places.{elementAt, firsts, row, joined}
 use Rattle.lists.specs.Refusals.{refuse}
 use Rattle.lists.specs.Chains.{firstRefusalBelow}
@@ -23,12 +23,13 @@ use Rattle.chart.specs.declared.ChartNode.{ChartNode}
 use Rattle.chart.specs.declared.Link.{Link}
 use Rattle.chart.specs.declared.Nodes.{Nodes}
 use Rattle.chart.specs.Refusals.{nodeRefusalBy, nodeRefusal}
-use Rattle.chart_read.specs.Fields.{tagged, pastField, bytesFrom, nodeIn, linkIn}
+use Rattle.chart_read.specs.Fields.{linkLength, tagged, pastField, bytesFrom, nodeIn, linkIn}
 use Rattle.chart_read.specs.Reading.{SoFar, withBody, refusing, nodeBodyRefusal, linkBodyRefusal, questionBodyRefusal, bodyRefusal, fieldRefusal, refusedAt, readChartOf}
 use Rattle.chart_read.proofs.Fields.{refusal-there, held-there, begins-there, past-there}
 use Rattle.chart_read.proofs.Walking.{heldPast, Reaches, reach-next, reach-refused}
-use Rattle.chart_write.specs.Writing.{nodeBody, onByte, linkBody, questionBody, tidyNode}
+use Rattle.chart_write.specs.Writing.{nodeBody, onByte, directionBytes, linkBody, questionBody, tidyNode}
 use Rattle.chart_write.proofs.Laws.{length-node-body, length-link-body, length-question-body}
+use Rattle.chart_write.proofs.Forms.{Said}
 use Rattle.chart_write.proofs.Agree.{tidy-refusal}
 
 -- ---- each body, read back
@@ -75,22 +76,27 @@ on-small : (on : Bool) → ltb 1 (onByte on) ≡ false
 on-small true = refl
 on-small false = refl
 
-pub link-back : (l : Link) → linkIn (linkBody l) ≡ l
-unfolding linkIn linkBody
-link-back l =
+way-back : (d : Bool) (way : ℕ) → (d ≡ false → way ≡ 0) → getD (cond d (way ∷ []) []) 0 0 ≡ way
+way-back true way h = refl
+way-back false way h = sym (h refl)
+
+pub link-back : (form : ℕ) (l : Link) → Said form l → linkIn (linkBody form l) ≡ l
+unfolding linkIn linkBody directionBytes
+link-back form l s =
     let a = div-add-mod' (l .a .node .0) 256 in
     let b = div-add-mod' (l .b .node .0) 256 in
     λ i. record {
       a = record { brigade = l .a .brigade; node = record { 0 = a i }; port = l .a .port };
       b = record { brigade = l .b .brigade; node = record { 0 = b i }; port = l .b .port };
       on = on-back (l .on) i;
+      direction = way-back (eqb form 4) (l .direction) (s .ways) i;
     }
 
-pub link-refusal-back : (refusal : Link → ℕ) (l : Link) → linkBodyRefusal refusal (linkBody l) ≡ refusal l
+pub link-refusal-back : (form : ℕ) (refusal : Link → ℕ) (l : Link) → Said form l → linkBodyRefusal form refusal (linkBody form l) ≡ refusal l
 unfolding linkBodyRefusal
-link-refusal-back refusal l =
-    let e : getD (linkBody l) 8 0 ≡ onByte (l .on) = unfold linkBody in refl in
-    rw (length-link-body l, e, on-small (l .on)) (ap refusal (link-back l))
+link-refusal-back form refusal l s =
+    let e : getD (linkBody form l) 8 0 ≡ onByte (l .on) = unfold linkBody in refl in
+    rw (length-link-body l form, eq-eqb (linkLength form) (linkLength form) refl, e, on-small (l .on)) (ap refusal (link-back form l s))
 
 pub question-back : (from to : Station) → (stationIn (questionBody from to) 0 ≡ from) × (stationIn (questionBody from to) 3 ≡ to)
 unfolding questionBody

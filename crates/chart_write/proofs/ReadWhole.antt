@@ -2,10 +2,11 @@
 use Prim.Native.Nat.{ℕ, zero, suc, _+_, _<_, _≤_}
 use mathlib.Core.Path.{_≡_, refl, sym, ap, ap₂, subst, _∙_}
 use mathlib.Core.List.{List, [], _++_, append-assoc, append-nil}
-use mathlib.Core.Bool.{true, false}
+use mathlib.Core.Bool.{Bool, true, false}
 use native.Mathlib.Nat.{le-refl}
 use native.Mathlib.Omega.{arith}
-use lib.ListN.{length, set, replicate, length-append}
+use lib.ListN.{length, set, length-append}
+use borrow.Author.Tests.{eq-eqb, ne-eqb, lt-ltb}
 use Rattle.lists.specs.Places.{elementAt, row, joined}
 use Rattle.lists.specs.Refusals.{orElse}
 use Rattle.lists.specs.Chains.{firstRefusalBelow}
@@ -15,13 +16,16 @@ use Rattle.chart.specs.declared.ChartNode.{ChartNode}
 use Rattle.chart.specs.declared.Nodes.{Nodes}
 use Rattle.chart.specs.declared.Links.{Links}
 use Rattle.chart.specs.declared.Chart.{Chart}
-use Rattle.chart.specs.Values.{noStation, noNode, noLink, noChart, nodeAt, linkAt}
-use Rattle.chart.specs.Refusals.{questionRefusal}
+use Rattle.chart.specs.Values.{noStation, noNode, noLink, noLinks, noChart, nodeAt, linkAt}
+use Rattle.chart.specs.Refusals.{linkRefusal, questionRefusal}
 use Rattle.chart_read.specs.declared.ChartRead.{ChartRead}
-use Rattle.chart_read.specs.Reading.{SoFar, nothing, withNode, withLink, withQuestion, withBody, nodeLate, refusing, bodyRefusal, refusedAt, readChartOf}
+use Rattle.chart_read.specs.Fields.{isForm}
+use Rattle.chart_read.specs.Reading.{SoFar, nothing, withNode, withLink, withQuestion, withBody, nodeLate, mixes, linkLate, linkAfter, refusing, bodyRefusal, refusedAt, readChartOf}
+use Rattle.chart_read.proofs.Laws.{link-number, with-link}
 use Rattle.chart_read.proofs.Walking.{Reaches, reach-start, reach-end}
 use Rattle.chart_refuse.specs.Refusal.{nodesBefore, linksBefore, nodeRefusalAt, linkRefusalAt, chartValuesRefusal}
-use Rattle.chart_write.specs.Writing.{nodeBody, linkBody, questionBody, nodeField, linkField, questionField, chartBytes, tidyNode, tidyAt, tidy}
+use Rattle.chart_write.specs.Writing.{nodeBody, linkBody, questionBody, nodeField, linkField, questionField, chartBytes, tidyNode, tidyAt, tidyForm, tidy}
+use Rattle.chart_write.proofs.Forms.{Said, AllSaid}
 use Rattle.chart_write.proofs.Agree.{SameNodes, SameLinks, node-agree, link-agree, question-agree}
 use Rattle.chart_write.proofs.ReadBack.{node-back, link-back, question-back, node-refusal-back, link-refusal-back, question-refusal-back, run-reaches, run-refused}
 
@@ -31,19 +35,22 @@ heldNodes ns i =
     record {
       chart = record {
         nodes = record { count = i; items = row 16 noNode (tidyAt ns) i };
-        links = record { count = 0; items = replicate 48 noLink };
+        links = noLinks;
         from = noStation;
         to = noStation;
       };
       asked = false;
     }
 
+abbrev linksHeld : Links → ℕ → Links
+linksHeld ls i = record { count = i; form = tidyForm (linksBefore ls i); items = row 48 noLink (linkAt ls) i }
+
 unfoldable heldLinks : Chart → ℕ → SoFar
 heldLinks c i =
     record {
       chart = record {
         nodes = record { count = c .nodes .count; items = row 16 noNode (tidyAt (c .nodes)) (c .nodes .count) };
-        links = record { count = i; items = row 48 noLink (linkAt (c .links)) i };
+        links = linksHeld (c .links) i;
         from = noStation;
         to = noStation;
       };
@@ -61,7 +68,7 @@ nodes-start ns = λ j.
     record {
       chart = record {
         nodes = record { count = 0; items = sym (row-none 16 noNode (tidyAt ns)) j };
-        links = record { count = 0; items = replicate 48 noLink };
+        links = noLinks;
         from = noStation;
         to = noStation;
       };
@@ -69,12 +76,12 @@ nodes-start ns = λ j.
     }
 
 links-start : (c : Chart) → heldNodes (c .nodes) (c .nodes .count) ≡ heldLinks c 0
-unfolding heldNodes heldLinks
+unfolding heldNodes heldLinks tidyForm
 links-start c = λ j.
     record {
       chart = record {
         nodes = record { count = c .nodes .count; items = row 16 noNode (tidyAt (c .nodes)) (c .nodes .count) };
-        links = record { count = 0; items = sym (row-none 48 noLink (linkAt (c .links))) j };
+        links = record { count = 0; form = 2; items = sym (row-none 48 noLink (linkAt (c .links))) j };
         from = noStation;
         to = noStation;
       };
@@ -89,20 +96,25 @@ nodes-next ns i h =
     record {
       chart = record {
         nodes = record { count = i + 1; items = e j };
-        links = record { count = 0; items = replicate 48 noLink };
+        links = noLinks;
         from = noStation;
         to = noStation;
       };
       asked = false;
     }
 
-links-next : (c : Chart) (i : ℕ) → i < 48 → withLink (heldLinks c i) (linkAt (c .links) i) ≡ heldLinks c (i + 1)
+-- the form of the links that are held: the chart's after the first of them
+form-next : (ls : Links) (i : ℕ) → ls .form ≡ tidyForm (linksBefore ls (i + 1))
+unfolding tidyForm
+form-next ls i = rw (ne-eqb (i + 1) 0 (λ e. omega arith))
+
+links-next : (c : Chart) (i : ℕ) → i < 48 → withLink (heldLinks c i) (c .links .form) (linkAt (c .links) i) ≡ heldLinks c (i + 1)
 unfolding withLink heldLinks
 links-next c i h = λ j.
     record {
       chart = record {
         nodes = record { count = c .nodes .count; items = row 16 noNode (tidyAt (c .nodes)) (c .nodes .count) };
-        links = record { count = i + 1; items = row-next 48 noLink (linkAt (c .links)) i h j };
+        links = record { count = i + 1; form = form-next (c .links) i j; items = row-next 48 noLink (linkAt (c .links)) i h j };
         from = noStation;
         to = noStation;
       };
@@ -114,7 +126,7 @@ same-nodes : (ns : Nodes) (i : ℕ) → SameNodes (record { count = i; items = r
 unfolding nodeAt tidyAt tidyNode elementAt
 same-nodes ns i = record { count = refl; stations = λ j h. ap (λ (n : ChartNode). n .station) (sym (row-at 16 noNode (tidyAt ns) i j h)) }
 
-same-links : (ls : Links) (i : ℕ) → SameLinks (record { count = i; items = row 48 noLink (linkAt ls) i }) (linksBefore ls i)
+same-links : (ls : Links) (i : ℕ) → SameLinks (linksHeld ls i) (linksBefore ls i)
 unfolding linkAt elementAt
 same-links ls i = record { count = refl; links = λ j h. sym (row-at 48 noLink (linkAt ls) i j h) }
 
@@ -128,36 +140,53 @@ node-held : (ns : Nodes) (i : ℕ) → i < 16 → withBody (heldNodes ns i) 1 (n
 unfolding withBody
 node-held ns i h = ap (withNode (heldNodes ns i)) (node-back (nodeAt ns i)) ∙ nodes-next ns i h
 
-link-refusal : (c : Chart) (i : ℕ) → bodyRefusal (refusing (heldLinks c i)) 2 (linkBody (linkAt (c .links) i)) ≡ linkRefusalAt (c .nodes) (c .links) i
-unfolding bodyRefusal refusing heldLinks linkRefusalAt
-link-refusal c i =
-    link-refusal-back _ (linkAt (c .links) i)
-    ∙ link-agree _ _ (same-nodes (c .nodes) (c .nodes .count)) _ _ (same-links (c .links) i) false (linkAt (c .links) i)
+-- no link comes too late
+none-mixed : (ls : Links) (i : ℕ) → mixes (linksHeld ls i) (ls .form) ≡ false
+unfolding mixes tidyForm
+none-mixed ls zero = refl
+none-mixed ls (suc i) = rw (ne-eqb (suc i) 0 (λ e. omega arith), eq-eqb (ls .form) (ls .form) refl, lt-ltb 0 (suc i) (omega arith))
 
-link-held : (c : Chart) (i : ℕ) → i < 48 → withBody (heldLinks c i) 2 (linkBody (linkAt (c .links) i)) ≡ heldLinks c (i + 1)
-unfolding withBody
-link-held c i h = ap (withLink (heldLinks c i)) (link-back (linkAt (c .links) i)) ∙ links-next c i h
+link-timely : (c : Chart) (i : ℕ) → linkLate (heldLinks c i) (c .links .form) ≡ false
+unfolding linkLate heldLinks
+link-timely c i = none-mixed (c .links) i
+
+link-refusal : (c : Chart) (i : ℕ) → Said (c .links .form) (linkAt (c .links) i)
+    → bodyRefusal (refusing (heldLinks c i)) (c .links .form) (linkBody (c .links .form) (linkAt (c .links) i)) ≡ linkRefusalAt (c .nodes) (c .links) i
+unfolding refusing linkAfter linkRefusalAt
+link-refusal c i s =
+    let form = c .links .form in
+    let l = linkAt (c .links) i in
+    sym (link-number (refusing (heldLinks c i)) form (linkBody form l) (s .known))
+    ∙ link-refusal-back form (refusing (heldLinks c i) .link form) l s
+    ∙ ap (λ (late : Bool). linkRefusal late form (heldLinks c i .chart .nodes) (heldLinks c i .chart .links) l) (link-timely c i)
+    ∙ (unfold heldLinks in link-agree _ _ (same-nodes (c .nodes) (c .nodes .count)) _ _ (same-links (c .links) i) false form l)
+
+link-held : (c : Chart) (i : ℕ) → i < 48 → Said (c .links .form) (linkAt (c .links) i)
+    → withBody (heldLinks c i) (c .links .form) (linkBody (c .links .form) (linkAt (c .links) i)) ≡ heldLinks c (i + 1)
+link-held c i h s =
+    let form = c .links .form in
+    with-link (heldLinks c i) form _ (s .known) ∙ ap (withLink (heldLinks c i) form) (link-back form (linkAt (c .links) i) s) ∙ links-next c i h
 
 question-refusal : (c : Chart) → bodyRefusal (refusing (heldLinks c (c .links .count))) 3 (questionBody (c .from) (c .to)) ≡ questionRefusal false (c .nodes) (c .from) (c .to)
-unfolding bodyRefusal refusing heldLinks
+unfolding isForm bodyRefusal refusing heldLinks
 question-refusal c =
     question-refusal-back _ (c .from) (c .to)
     ∙ question-agree _ _ (same-nodes (c .nodes) (c .nodes .count)) false (c .from) (c .to)
 
 question-held : (c : Chart) → withBody (heldLinks c (c .links .count)) 3 (questionBody (c .from) (c .to)) ≡ record { chart = tidy c; asked = true }
-unfolding withBody
+unfolding isForm withBody
 question-held c =
     let q = question-back (c .from) (c .to) in
     ap₂ (withQuestion (heldLinks c (c .links .count))) (q .0) (q .1) ∙ (unfold withQuestion heldLinks tidy in refl)
 
 -- ---- the whole chart
 
-module _ (c : Chart) (few-nodes : c .nodes .count ≤ 16) (few-links : c .links .count ≤ 48) where
+module _ (c : Chart) (few-nodes : c .nodes .count ≤ 16) (few-links : c .links .count ≤ 48) (said : AllSaid (c .links)) where
   abbrev N : List ℕ
   N = joined nodeField (nodeAt (c .nodes)) (c .nodes .count)
 
   abbrev L : List ℕ
-  L = joined linkField (linkAt (c .links)) (c .links .count)
+  L = joined (linkField (c .links .form)) (linkAt (c .links)) (c .links .count)
 
   abbrev Q : List ℕ
   Q = questionField (c .from) (c .to)
@@ -187,12 +216,12 @@ module _ (c : Chart) (few-nodes : c .nodes .count ≤ 16) (few-links : c .links 
       subst (λ (s : SoFar). Reaches (chartBytes c) s (length (joined nodeField (nodeAt (c .nodes)) 0))) (nodes-start (c .nodes))
       (subst (λ (l : List ℕ). Reaches (chartBytes c) nothing (length l)) (sym (joined-none nodeField (nodeAt (c .nodes)))) (reach-start (chartBytes c)))
 
-  links-reached : firstRefusalBelow nodeNum (c .nodes .count) ≡ 0 → Reaches (chartBytes c) (heldLinks c 0) (length (N ++ joined linkField (linkAt (c .links)) 0))
+  links-reached : firstRefusalBelow nodeNum (c .nodes .count) ≡ 0 → Reaches (chartBytes c) (heldLinks c 0) (length (N ++ joined (linkField (c .links .form)) (linkAt (c .links)) 0))
   unfolding chartBytes nodeField
   links-reached z =
-      subst (λ (s : SoFar). Reaches (chartBytes c) s (length (N ++ joined linkField (linkAt (c .links)) 0))) (links-start c)
+      subst (λ (s : SoFar). Reaches (chartBytes c) s (length (N ++ joined (linkField (c .links .form)) (linkAt (c .links)) 0))) (links-start c)
       (subst (λ (l : List ℕ). Reaches (chartBytes c) (heldNodes (c .nodes) (c .nodes .count)) (length l))
-      (sym (append-nil N) ∙ ap (λ (l : List ℕ). N ++ l) (sym (joined-none linkField (linkAt (c .links)))))
+      (sym (append-nil N) ∙ ap (λ (l : List ℕ). N ++ l) (sym (joined-none (linkField (c .links .form)) (linkAt (c .links)))))
       (run-reaches 1 nodeBody nodeField (λ x. refl) (nodeAt (c .nodes)) (c .nodes .count) (heldNodes (c .nodes)) nodeNum [] (L ++ Q)
       (λ i h. node-refusal (c .nodes) i) (λ i h. node-held (c .nodes) i (omega arith)) nodes-reached (c .nodes .count) (le-refl (c .nodes .count)) z))
 
@@ -206,8 +235,8 @@ module _ (c : Chart) (few-nodes : c .nodes .count ≤ 16) (few-links : c .links 
   question-reached z y =
       subst (λ (l : List ℕ). Reaches (chartBytes c) (heldLinks c (c .links .count)) (length l))
       (sym (append-nil (N ++ L)) ∙ ap (λ (l : List ℕ). (N ++ L) ++ l) (sym (joined-none question-field (λ i. c))))
-      (run-reaches 2 linkBody linkField (λ x. refl) (linkAt (c .links)) (c .links .count) (heldLinks c) linkNum N Q
-      (λ i h. link-refusal c i) (λ i h. link-held c i (omega arith)) (links-reached z) (c .links .count) (le-refl (c .links .count)) y)
+      (run-reaches (c .links .form) (linkBody (c .links .form)) (linkField (c .links .form)) (λ x. refl) (linkAt (c .links)) (c .links .count) (heldLinks c) linkNum N Q
+      (λ i h. link-refusal c i (said i h)) (λ i h. link-held c i (omega arith) (said i h)) (links-reached z) (c .links .count) (le-refl (c .links .count)) y)
 
   one-refusal : (i : ℕ) → i < 1 → bodyRefusal (refusing (heldAll c i)) 3 (questionBody (c .from) (c .to)) ≡ questionNum i
   unfolding heldAll
@@ -233,8 +262,8 @@ module _ (c : Chart) (few-nodes : c .nodes .count ≤ 16) (few-links : c .links 
   links-end z h =
       let b = first-bad linkNum (c .links .count) h in
       refused-ends _ _ h
-      (run-refused 2 linkBody linkField (λ x. refl) (linkAt (c .links)) (c .links .count) (heldLinks c) linkNum N Q
-      (λ i l. link-refusal c i) (λ i l. link-held c i (omega arith)) (links-reached z) b)
+      (run-refused (c .links .form) (linkBody (c .links .form)) (linkField (c .links .form)) (λ x. refl) (linkAt (c .links)) (c .links .count) (heldLinks c) linkNum N Q
+      (λ i l. link-refusal c i (said i l)) (λ i l. link-held c i (omega arith) (said i l)) (links-reached z) b)
 
   question-end : firstRefusalBelow nodeNum (c .nodes .count) ≡ 0 → firstRefusalBelow linkNum (c .links .count) ≡ 0 → (k : ℕ) → questionNum 0 ≡ k → Ends k
   unfolding questionField question-field

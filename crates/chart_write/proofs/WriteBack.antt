@@ -6,7 +6,7 @@ use mathlib.Core.Bool.{Bool, true, false, cond}
 use native.Mathlib.Decide.{decLt}
 use native.Mathlib.Omega.{arith}
 use lib.ListN.{length, take, drop, getD, set, length-set, length-drop, length-append, drop-of-length-le}
-use lib.Seq.{take-all, getD-set-same, getD-set-other, getD-drop, length-take-le}
+use lib.Seq.{take-all, getD-set-same, getD-set-other, getD-drop, drop-cons, length-take-le}
 use lib.Dec.{ltb, leb, eqb}
 use borrow.Author.Tests.{ltb-false, leb-true, leb-false, eqb-true}
 use Rattle.buffer.specs.Bytes.{Bytes}
@@ -20,17 +20,18 @@ use Rattle.chart.specs.declared.ChartNode.{ChartNode}
 use Rattle.chart.specs.declared.Link.{Link}
 use Rattle.chart.specs.declared.Chart.{Chart}
 use Rattle.chart.specs.Values.{noChart, noNode, noLink, nodeAt, linkAt}
-use Rattle.chart.specs.Refusals.{nodeRefusal, linkRefusal, questionRefusal}
+use Rattle.chart.specs.Refusals.{nodeRefusal, questionRefusal}
 use Rattle.chart.proofs.Laws.{node-passed, link-passed, question-passed}
 use Rattle.chart_read.specs.declared.ChartRead.{ChartRead}
-use Rattle.chart_read.specs.Fields.{linkLength, questionLength, tagged, tagAt, bodyAt, pastField, bytesFrom, nodeIn, linkIn}
-use Rattle.chart_read.specs.Reading.{SoFar, nothing, withNode, withLink, withQuestion, withBody, nodeLate, refusing, nodeBodyRefusal, linkBodyRefusal, questionBodyRefusal, bodyRefusal, fieldRefusal, refusedAt, atEnd, onward, walk, readChartOf}
-use Rattle.chart_read.proofs.Laws.{with-node, with-link, with-question, node-zero, link-zero, question-tag, question-zero, node-bounds, link-bounds, question-bounds, whole, body-zero}
+use Rattle.chart_read.specs.Fields.{isForm, plainLength, directedLength, linkLength, questionLength, tagged, tagAt, bodyAt, pastField, bytesFrom, nodeIn, linkIn}
+use Rattle.chart_read.specs.Reading.{SoFar, nothing, withNode, withLink, withQuestion, withBody, nodeLate, mixes, linkLate, linkAfter, refusing, nodeBodyRefusal, linkBodyRefusal, questionBodyRefusal, bodyRefusal, fieldRefusal, refusedAt, atEnd, onward, walk, readChartOf}
+use Rattle.chart_read.proofs.Laws.{link-length-bounds, with-node, with-link, with-question, node-zero, link-zero, question-tag, question-zero, node-bounds, link-bounds, question-bounds, whole, body-zero}
 use Rattle.chart_read.proofs.Fields.{three-on, field-there, bytes-body}
 use Rattle.buffer.proofs.Words.{high-back, low-back}
 use Rattle.chart_read.proofs.Walking.{heldPast, turn, walk-end}
-use Rattle.chart_write.specs.Writing.{nodeBody, onByte, linkBody, questionBody, nodeField, linkField, questionField, linkFieldSize, questionFieldSize, longestNodeField, longestChart, chartBytes}
-use Rattle.chart_write.proofs.Laws.{nodes-most, length-links, length-question}
+use Rattle.chart_write.specs.Writing.{nodeBody, onByte, directionBytes, linkBody, questionBody, nodeField, linkField, questionField, questionFieldSize, longestNodeField, longestChart, chartBytes}
+use Rattle.chart_write.proofs.Laws.{nodes-most, length-links, links-few, length-question}
+use Rattle.chart_write.proofs.Forms.{Said, AllSaid, in-range-said, unmixed, form-bytes}
 
 -- ---- the bodies: what a body says, written, is the body
 
@@ -55,24 +56,32 @@ on-is zero h = refl
 on-is (suc zero) h = refl
 on-is (suc (suc x)) h = absurd (omega arith)
 
--- a link's bytes, written out
-link-bytes : (b : List ℕ) → length b ≡ linkLength
-    → b ≡ getD b 0 0 ∷ getD b 1 0 ∷ getD b 2 0 ∷ getD b 3 0 ∷ getD b 4 0 ∷ getD b 5 0 ∷ getD b 6 0 ∷ getD b 7 0 ∷ getD b 8 0 ∷ []
+-- a link's bytes, written out, and the last of them by its form
+link-bytes : (b : List ℕ) → 9 ≤ length b
+    → b ≡ getD b 0 0 ∷ getD b 1 0 ∷ getD b 2 0 ∷ getD b 3 0 ∷ getD b 4 0 ∷ getD b 5 0 ∷ getD b 6 0 ∷ getD b 7 0 ∷ getD b 8 0 ∷ drop 9 b
 link-bytes b h =
     three-on b 0 (omega arith)
     ∙ ap (λ (t : List ℕ). getD b 0 0 ∷ getD b 1 0 ∷ getD b 2 0 ∷ t)
     (three-on b 3 (omega arith)
     ∙ ap (λ (t : List ℕ). getD b 3 0 ∷ getD b 4 0 ∷ getD b 5 0 ∷ t)
-    (three-on b 6 (omega arith) ∙ ap (λ (t : List ℕ). getD b 6 0 ∷ getD b 7 0 ∷ getD b 8 0 ∷ t) (drop-of-length-le b {i = linkLength} (omega arith))))
+    (three-on b 6 (omega arith)))
 
-link-body-back : (b : List ℕ) → Bytes b → length b ≡ linkLength → getD b 8 0 ≤ 1 → linkBody (linkIn b) ≡ b
+direction-bytes : (form : ℕ) (b : List ℕ) → length b ≡ linkLength form → directionBytes form (getD b 9 0) ≡ drop 9 b
+unfolding directionBytes linkLength
+direction-bytes form b l = by (eqb form 4) l
+  where
+    by : (d : Bool) → length b ≡ cond d 10 9 → cond d (getD b 9 0 ∷ []) [] ≡ drop 9 b
+    by true h = sym (drop-cons b 9 0 (omega arith) ∙ ap (λ (t : List ℕ). getD b 9 0 ∷ t) (drop-of-length-le b {i = directedLength} (omega arith)))
+    by false h = sym (drop-of-length-le b {i = plainLength} (omega arith))
+
+link-body-back : (form : ℕ) (b : List ℕ) → Bytes b → length b ≡ linkLength form → getD b 8 0 ≤ 1 → linkBody form (linkIn b) ≡ b
 unfolding linkBody linkIn
-link-body-back b s l o =
+link-body-back form b s l o =
     (λ i.
     getD b 0 0 ∷ high-back (getD b 1 0) (getD b 2 0) (s 2) i ∷ low-back (getD b 1 0) (getD b 2 0) (s 2) i ∷ getD b 3 0
     ∷ getD b 4 0 ∷ high-back (getD b 5 0) (getD b 6 0) (s 6) i ∷ low-back (getD b 5 0) (getD b 6 0) (s 6) i ∷ getD b 7 0
-    ∷ on-is (getD b 8 0) o i ∷ [])
-    ∙ sym (link-bytes b l)
+    ∷ on-is (getD b 8 0) o i ∷ direction-bytes form b l i)
+    ∙ sym (link-bytes b (omega (arith, link-length-bounds form .0)))
 
 question-body-back : (b : List ℕ) → Bytes b → length b ≡ questionLength → questionBody (stationIn b 0) (stationIn b 3) ≡ b
 unfolding questionBody
@@ -89,7 +98,7 @@ question-body-back b s l =
 unfoldable heldBytes : SoFar → List ℕ
 heldBytes s =
     joined nodeField (nodeAt (s .chart .nodes)) (s .chart .nodes .count)
-    ++ (joined linkField (linkAt (s .chart .links)) (s .chart .links .count)
+    ++ (joined (linkField (s .chart .links .form)) (linkAt (s .chart .links)) (s .chart .links .count)
     ++ cond (s .asked) (questionField (s .chart .from) (s .chart .to)) [])
 
 record Kept (s : SoFar) : Type 0 where
@@ -98,22 +107,23 @@ record Kept (s : SoFar) : Type 0 where
   few-nodes : s .chart .nodes .count ≤ 16
   few-links : s .chart .links .count ≤ 48
   short : (i : ℕ) → i < s .chart .nodes .count → nodeAt (s .chart .nodes) i .length ≤ 24
+  said : AllSaid (s .chart .links)
 
 -- one field more
 abbrev Grown : SoFar → SoFar → List ℕ → Type 0
 Grown s t field = (heldBytes t ≡ heldBytes s ++ field) × Kept t
 
--- one node more with a short label
-set-short : (l : List ChartNode) (k : ℕ) (n : ChartNode) → k < length l → n .length ≤ 24 → ((j : ℕ) → j < k → elementAt noNode l j .length ≤ 24)
-    → (i : ℕ) → i < k + 1 → elementAt noNode (set l k n) i .length ≤ 24
+-- what holds of the first k and of one more
+set-all : {A : Type 0} (P : A → Type 0) (z : A) (l : List A) (k : ℕ) (x : A) → k < length l → P x → ((j : ℕ) → j < k → P (elementAt z l j))
+    → (i : ℕ) → i < k + 1 → P (elementAt z (set l k x) i)
 unfolding elementAt
-set-short l k n w m o i h = go (decLt i k)
+set-all P z l k x w m o i h = go (decLt i k)
   where
-    go : Dec (i < k) → getD (set l k n) i noNode .length ≤ 24
-    go (yes q) = subst (λ (x : ChartNode). x .length ≤ 24) (sym (getD-set-other l k i n noNode (λ e. omega arith))) (o i q)
+    go : Dec (i < k) → P (getD (set l k x) i z)
+    go (yes q) = subst P (sym (getD-set-other l k i x z (λ e. omega arith))) (o i q)
     go (no q) =
         let e : k ≡ i = omega arith in
-        subst (λ (x : ChartNode). x .length ≤ 24) (sym (ap (λ (j : ℕ). getD (set l k n) j noNode) (sym e) ∙ getD-set-same l k n noNode w)) m
+        subst P (sym (ap (λ (j : ℕ). getD (set l k x) j z) (sym e) ∙ getD-set-same l k x z w)) m
 
 node-grown : (s : SoFar) (n : ChartNode) → Kept s → nodeRefusal (nodeLate s) (s .chart .nodes) n ≡ 0 → Grown s (withNode s n) (nodeField n)
 unfolding heldBytes withNode nodeLate nodeAt
@@ -124,10 +134,10 @@ node-grown s n k z =
     let lc : c .links .count ≡ 0 = omega (arith, ltb-false 0 (c .links .count) (q .1)) in
     let N = joined nodeField (elementAt noNode (c .nodes .items)) (c .nodes .count) in
     let F = nodeField n in
-    let T = joined linkField (linkAt (c .links)) (c .links .count) ++ cond (s .asked) (questionField (c .from) (c .to)) [] in
+    let T = joined (linkField (c .links .form)) (linkAt (c .links)) (c .links .count) ++ cond (s .asked) (questionField (c .from) (c .to)) [] in
     let t : T ≡ [] =
-    ap₂ (λ (m : ℕ) (d : Bool). joined linkField (linkAt (c .links)) m ++ cond d (questionField (c .from) (c .to)) []) lc (q .0)
-    ∙ ap (λ (x : List ℕ). x ++ []) (joined-none linkField (linkAt (c .links))) in
+    ap₂ (λ (m : ℕ) (d : Bool). joined (linkField (c .links .form)) (linkAt (c .links)) m ++ cond d (questionField (c .from) (c .to)) []) lc (q .0)
+    ∙ ap (λ (x : List ℕ). x ++ []) (joined-none (linkField (c .links .form)) (linkAt (c .links))) in
     let g : joined nodeField (elementAt noNode (set (c .nodes .items) (c .nodes .count) n)) (c .nodes .count + 1) ≡ N ++ F =
     joined-set nodeField noNode (c .nodes .items) (c .nodes .count) n (omega (arith, k .nodes, p .room)) in (
       ap₂ (λ (x y : List ℕ). x ++ y) g t ∙ append-nil (N ++ F) ∙ sym (ap (λ (y : List ℕ). (N ++ y) ++ F) t ∙ ap (λ (y : List ℕ). y ++ F) (append-nil N)),
@@ -136,31 +146,35 @@ node-grown s n k z =
         links = k .links;
         few-nodes = omega (arith, p .room);
         few-links = k .few-links;
-        short = set-short (c .nodes .items) (c .nodes .count) n (omega (arith, k .nodes, p .room)) (p .short) (k .short);
+        short = set-all (λ (x : ChartNode). x .length ≤ 24) noNode (c .nodes .items) (c .nodes .count) n (omega (arith, k .nodes, p .room)) (p .short) (k .short);
+        said = k .said;
       },
     )
 
-link-grown : (s : SoFar) (l : Link) → Kept s → linkRefusal (s .asked) (s .chart .nodes) (s .chart .links) l ≡ 0 → Grown s (withLink s l) (linkField l)
-unfolding heldBytes withLink linkAt
-link-grown s l k z =
-    let p = link-passed (s .asked) (s .chart .nodes) (s .chart .links) l z in
+link-grown : (s : SoFar) (form : ℕ) (l : Link) → Kept s → linkAfter s form l ≡ 0 → Grown s (withLink s form l) (linkField form l)
+unfolding heldBytes withLink linkAfter linkLate linkAt
+link-grown s form l k z =
+    let p = link-passed (linkLate s form) form (s .chart .nodes) (s .chart .links) l z in
     let c = s .chart in
+    let q = or-neither-of (s .asked) (mixes (c .links) form) (p .timely) in
     let N = joined nodeField (nodeAt (c .nodes)) (c .nodes .count) in
-    let L = joined linkField (elementAt noLink (c .links .items)) (c .links .count) in
-    let F = linkField l in
+    let L = joined (linkField form) (elementAt noLink (c .links .items)) (c .links .count) in
+    let F = linkField form l in
     let Q = questionField (c .from) (c .to) in
-    let g : joined linkField (elementAt noLink (set (c .links .items) (c .links .count) l)) (c .links .count + 1) ≡ L ++ F =
-    joined-set linkField noLink (c .links .items) (c .links .count) l (omega (arith, k .links, p .room)) in (
-      ap₂ (λ (x : List ℕ) (d : Bool). N ++ (x ++ cond d Q [])) g (p .timely)
+    let g : joined (linkField form) (elementAt noLink (set (c .links .items) (c .links .count) l)) (c .links .count + 1) ≡ L ++ F =
+    joined-set (linkField form) noLink (c .links .items) (c .links .count) l (omega (arith, k .links, p .room)) in (
+      ap₂ (λ (x : List ℕ) (d : Bool). N ++ (x ++ cond d Q [])) g (q .0)
           ∙ ap (λ (y : List ℕ). N ++ y) (append-nil (L ++ F))
           ∙ sym (append-assoc N L F)
-          ∙ sym (ap (λ (d : Bool). (N ++ (L ++ cond d Q [])) ++ F) (p .timely) ∙ ap (λ (y : List ℕ). (N ++ y) ++ F) (append-nil L)),
+          ∙ sym (ap₂ (λ (x : List ℕ) (d : Bool). (N ++ (x ++ cond d Q [])) ++ F) (form-bytes (c .links) form (unmixed (c .links) form (q .1))) (q .0) ∙ ap (λ (y : List ℕ). (N ++ y) ++ F) (append-nil L)),
       record {
         nodes = k .nodes;
         links = length-set (c .links .items) (c .links .count) l ∙ k .links;
         few-nodes = k .few-nodes;
         few-links = omega (arith, p .room);
         short = k .short;
+        said = set-all (Said form) noLink (c .links .items) (c .links .count) l (omega (arith, k .links, p .room)) (in-range-said form l (p .ranged))
+            (λ j h. subst (λ (f : ℕ). Said f (elementAt noLink (c .links .items) j)) (unmixed (c .links) form (q .1) (λ e. absurd (omega arith))) (k .said j h));
       },
     )
 
@@ -170,11 +184,11 @@ question-grown s from to k z =
     let p = question-passed (s .asked) (s .chart .nodes) from to z in
     let c = s .chart in
     let N = joined nodeField (nodeAt (c .nodes)) (c .nodes .count) in
-    let L = joined linkField (linkAt (c .links)) (c .links .count) in
+    let L = joined (linkField (c .links .form)) (linkAt (c .links)) (c .links .count) in
     let F = questionField from to in (
       sym (append-assoc N L F)
           ∙ sym (ap (λ (d : Bool). (N ++ (L ++ cond d (questionField (c .from) (c .to)) [])) ++ F) (p .timely) ∙ ap (λ (y : List ℕ). (N ++ y) ++ F) (append-nil L)),
-      record { nodes = k .nodes; links = k .links; few-nodes = k .few-nodes; few-links = k .few-links; short = k .short },
+      record { nodes = k .nodes; links = k .links; few-nodes = k .few-nodes; few-links = k .few-links; short = k .short; said = k .said },
     )
 
 -- ---- a body that is taken
@@ -188,11 +202,12 @@ node-step s b k m z =
     let p = node-bounds (refusing s .node) b z in
     grown-as s refl (sym (ap (tagged 1) (node-body-back b m (p .0)))) (node-grown s (nodeIn b) k (p .2))
 
-link-step : (s : SoFar) (b : List ℕ) → Kept s → Bytes b → linkBodyRefusal (refusing s .link) b ≡ 0 → Grown s (withLink s (linkIn b)) (tagged 2 b)
+link-step : (s : SoFar) (form : ℕ) (b : List ℕ) → Kept s → Bytes b → linkBodyRefusal form (refusing s .link form) b ≡ 0
+    → Grown s (withLink s form (linkIn b)) (tagged form b)
 unfolding linkField refusing
-link-step s b k m z =
-    let p = link-bounds (refusing s .link) b z in
-    grown-as s refl (sym (ap (tagged 2) (link-body-back b m (p .0) (p .1)))) (link-grown s (linkIn b) k (p .2))
+link-step s form b k m z =
+    let p = link-bounds form (refusing s .link form) b z in
+    grown-as s refl (sym (ap (tagged form) (link-body-back form b m (p .0) (p .1)))) (link-grown s form (linkIn b) k (p .2))
 
 question-step : (s : SoFar) (b : List ℕ) → Kept s → Bytes b → questionBodyRefusal (refusing s .question) b ≡ 0
     → Grown s (withQuestion s (stationIn b 0) (stationIn b 3)) (tagged 3 b)
@@ -202,13 +217,12 @@ question-step s b k m z =
     grown-as s refl (sym (ap (tagged 3) (question-body-back b m (p .0)))) (question-grown s (stationIn b 0) (stationIn b 3) k (p .1))
 
 body-step : (s : SoFar) (tag : ℕ) (b : List ℕ) → Kept s → Bytes b → bodyRefusal (refusing s) tag b ≡ 0 → Grown s (withBody s tag b) (tagged tag b)
-body-step s tag b k m z = by (eqb tag 1) (eqb tag 2) refl refl
+body-step s tag b k m z = by (eqb tag 1) (isForm tag) refl refl
   where
-    by : (x y : Bool) → eqb tag 1 ≡ x → eqb tag 2 ≡ y → Grown s (withBody s tag b) (tagged tag b)
+    by : (x y : Bool) → eqb tag 1 ≡ x → isForm tag ≡ y → Grown s (withBody s tag b) (tagged tag b)
     by true y e f =
         grown-as s (with-node s tag b e) (ap (λ (t : ℕ). tagged t b) (eqb-true tag 1 e)) (node-step s b k m (node-zero (refusing s) tag b z e))
-    by false true e f =
-        grown-as s (with-link s tag b e f) (ap (λ (t : ℕ). tagged t b) (eqb-true tag 2 f)) (link-step s b k m (link-zero (refusing s) tag b z e f))
+    by false true e f = grown-as s (with-link s tag b f) refl (link-step s tag b k m (link-zero (refusing s) tag b z f))
     by false false e f =
         grown-as s (with-question s tag b e f) (ap (λ (t : ℕ). tagged t b) (eqb-true tag 3 (question-tag (refusing s) tag b z e f)))
         (question-step s b k m (question-zero (refusing s) tag b z e f))
@@ -220,17 +234,17 @@ unfolding heldBytes chartBytes
 held-all s d =
     ap (λ (b : Bool).
     joined nodeField (nodeAt (s .chart .nodes)) (s .chart .nodes .count)
-    ++ (joined linkField (linkAt (s .chart .links)) (s .chart .links .count) ++ cond b (questionField (s .chart .from) (s .chart .to)) [])) d
+    ++ (joined (linkField (s .chart .links .form)) (linkAt (s .chart .links)) (s .chart .links .count) ++ cond b (questionField (s .chart .from) (s .chart .to)) [])) d
 
 held-small : (s : SoFar) → Kept s → length (heldBytes s) ≤ longestChart
 unfolding heldBytes
 held-small s k =
     let c = s .chart in
     let N = joined nodeField (nodeAt (c .nodes)) (c .nodes .count) in
-    let L = joined linkField (linkAt (c .links)) (c .links .count) in
+    let L = joined (linkField (c .links .form)) (linkAt (c .links)) (c .links .count) in
     let T = cond (s .asked) (questionField (c .from) (c .to)) [] in
     let n : length N ≤ longestNodeField * c .nodes .count = nodes-most (c .nodes) (c .nodes .count) (k .short) in
-    let l : length L ≡ linkFieldSize * c .links .count = length-links (c .links) (c .links .count) in
+    let l : length L ≤ 624 = rw (length-links (c .links .form) (c .links) (c .links .count)) (links-few (c .links .form) (c .links .count) (k .few-links)) in
     let q : length T ≤ questionFieldSize = tail (s .asked) in
     omega (arith, length-append N (L ++ T), length-append L T, k .few-nodes, k .few-links)
   where
@@ -249,6 +263,7 @@ module _ (bytes : List ℕ) (small : Bytes bytes) where
     pub same : chartBytes c ≡ bytes
     pub few-nodes : c .nodes .count ≤ 16
     pub few-links : c .links .count ≤ 48
+    pub said : AllSaid (c .links)
 
   pub record Good (r : ChartRead) : Type 0 where
     pub undone : r .refusal ≡ 0 → Undone (r .chart)
@@ -271,7 +286,7 @@ module _ (bytes : List ℕ) (small : Bytes bytes) where
   end-good s at H h = by (s .asked) refl
     where
       by : (b : Bool) → s .asked ≡ b → Good (cond {A = ChartRead} b (record { refusal = 0; place = 0; chart = s .chart }) (refusedAt 31 (length bytes)))
-      by true d = record { undone = λ z. record { same = sym (held-all s d) ∙ H .passed ∙ take-all at bytes h; few-nodes = H .kept .few-nodes; few-links = H .kept .few-links }; near = omega arith }
+      by true d = record { undone = λ z. record { same = sym (held-all s d) ∙ H .passed ∙ take-all at bytes h; few-nodes = H .kept .few-nodes; few-links = H .kept .few-links; said = H .kept .said }; near = omega arith }
       by false d = record { undone = λ z. absurd (omega arith); near = omega (arith, place-small s at H) }
 
   walk-good : (k : ℕ) (s : SoFar) (at : ℕ) → Holds s at → length bytes ≤ at + k → Good (walk k s bytes at)
@@ -307,4 +322,4 @@ module _ (bytes : List ℕ) (small : Bytes bytes) where
       start = unfold heldBytes nothing noChart joined in refl
 
       kept : Kept nothing
-      kept = unfold nothing noChart in record { nodes = refl; links = refl; few-nodes = omega arith; few-links = omega arith; short = λ i h. absurd (omega arith) }
+      kept = unfold nothing noChart in record { nodes = refl; links = refl; few-nodes = omega arith; few-links = omega arith; short = λ i h. absurd (omega arith); said = λ i h. absurd (omega arith) }

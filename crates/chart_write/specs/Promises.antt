@@ -1,4 +1,4 @@
--- Charts are read and written and each undoes the other (document 01, "The chart"): what that says of the definitions. proofs/Promises.antt has the theorems.
+-- Charts are read and written and each undoes the other, in either form (document 01, "The chart"; document 02, Five): what that says of the definitions. proofs/Promises.antt has the theorems.
 use Prim.Native.Nat.{ℕ, _<_, _≤_}
 use mathlib.Core.Path.{_≡_}
 use mathlib.Core.List.{List, [], _∷_, _++_}
@@ -10,8 +10,10 @@ use Rattle.buffer.specs.Bytes.{Bytes}
 use Rattle.buffer.specs.declared.Written.the-variants.{Wrote}
 use Rattle.chart.specs.declared.ChartNode.{ChartNode}
 use Rattle.chart.specs.declared.Nodes.{Nodes}
+use Rattle.chart.specs.declared.Links.{Links}
 use Rattle.chart.specs.declared.Chart.{Chart}
-use Rattle.chart.specs.Values.{mostNodes, mostLinks, longestLabel, noNode, nodeAt, strayByte}
+use Rattle.chart.specs.Values.{mostNodes, mostLinks, longestLabel, plain, bothWays, noNode, nodeAt, linkAt, strayByte}
+use Rattle.chart_read.specs.Fields.{isForm}
 use Rattle.chart_read.specs.Reading.{readChartOf}
 use Rattle.chart_refuse.specs.Refusal.{chartRefusal}
 use Rattle.chart_write.specs.Writing.{longestChart, chartBytes, chartWriteRefusal, writeChartOf, chartAfter, tidy}
@@ -35,16 +37,21 @@ abbrev pub ChartWriteUndoesRead : Type 0
 ChartWriteUndoesRead = (bytes : List ℕ) → Bytes bytes → readChartOf bytes .refusal ≡ 0 → (out : List ℕ) → length bytes ≤ length out
     → ChartWrittenBack bytes (readChartOf bytes .chart) out
 
--- an accepted chart has at most 1,065 bytes, and a refusal's place is at most that, however long the input
+-- an accepted chart has at most 1,113 bytes, and a refusal's place is at most that, however long the input
 abbrev pub ChartsShort : Type 0
 ChartsShort = (c : Chart) → chartRefusal c ≡ 0 → length (chartBytes c) ≤ longestChart
 
 abbrev pub PlacesNear : Type 0
 PlacesNear = (bytes : List ℕ) → Bytes bytes → readChartOf bytes .place ≤ longestChart
 
--- a chart whose counts are within their limits has the number that the reader gives on its bytes
+-- the bytes of these links say all of them: they are in one of the two forms, and where that is the plain one they go both ways
+pub record Sayable (ls : Links) : Type 0 where
+  pub form : isForm (ls .form) ≡ true
+  pub ways : (i : ℕ) → i < ls .count → ls .form ≡ plain → linkAt ls i .direction ≡ bothWays
+
+-- a chart whose counts are within their limits and whose bytes say its links has the number that the reader gives on its bytes
 abbrev pub SameRefusal : Type 0
-SameRefusal = (c : Chart) → c .nodes .count ≤ mostNodes → c .links .count ≤ mostLinks → readChartOf (chartBytes c) .refusal ≡ chartRefusal c
+SameRefusal = (c : Chart) → c .nodes .count ≤ mostNodes → c .links .count ≤ mostLinks → Sayable (c .links) → readChartOf (chartBytes c) .refusal ≡ chartRefusal c
 
 -- the numbers that the reader gives
 abbrev pub chartReaderRefusals : List ℕ

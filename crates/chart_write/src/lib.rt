@@ -1,4 +1,4 @@
-// The chart's writer (document 01, "The chart"): a chart given as values is refused by number, or its bytes are put into a lent buffer.
+// The chart's writer (document 01, "The chart"; document 02, Five): a chart given as values is refused by number, or its bytes are put into a lent buffer.
 use buffer::Written;
 use chart::Chart;
 use chart_refuse::chart_refusal;

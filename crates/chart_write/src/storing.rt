@@ -3,14 +3,16 @@ use crate::bytes::link_body;
 use crate::bytes::question_body;
 use chart::Chart;
 use chart::ChartNode;
+use chart::DIRECTED;
+use chart::Link;
 use chart::Links;
 use chart::Nodes;
-use chart_read::LINK_LENGTH;
-use chart_read::LINK_TAG;
 use chart_read::NODE_TAG;
+use chart_read::PLAIN_LENGTH;
 use chart_read::QUESTION_LENGTH;
 use chart_read::QUESTION_TAG;
 use chart_read::SHORTEST_NODE;
+use chart_read::link_length;
 ghost use mathlib.Core.Path.{_≡_};
 ghost use mathlib.Core.List.{_∷_};
 ghost use Prim.Native.Nat.{_+_, _*_, _≤_};
@@ -19,15 +21,13 @@ ghost use lib.Seq.{sets};
 ghost use Rattle.lists.specs.Places.{elementAt, firsts, joined};
 ghost use Rattle.buffer.specs.Bytes.{wordBytes};
 ghost use Rattle.chart.specs.Values.{longestLabel, mostLinks, nodeAt, linkAt};
-ghost use Rattle.chart_read.specs.Fields.{longestNode, tagged};
+ghost use Rattle.chart_read.specs.Fields.{longestNode, directedLength, tagged};
 ghost use Rattle.chart_refuse.specs.Refusal.{chartRefusal};
 ghost use Rattle.chart_write.specs.Writing.{nodeBody, nodeField, linkField, headSize, linkFieldSize, mostNodeBytes, chartBytes};
 ghost use Rattle.chart_write.specs.Contracts.{longestBody, Short};
 
-// The size of a field's tag and length, of a link's field and of the question's.
+// The size of a field's tag and length, and of the question's field.
 const HEAD_SIZE: usize = 3;
-
-const LINK_FIELD_SIZE: usize = HEAD_SIZE + LINK_LENGTH;
 
 const QUESTION_FIELD_SIZE: usize = HEAD_SIZE + QUESTION_LENGTH;
 
@@ -54,13 +54,22 @@ fn nodes_size(nodes: Nodes) -> usize
     size
 }
 
+// The size of a link's field, by its form.
+fn link_field_size(form: u8) -> usize
+    ensures { λ r. ⌜ (r ≡ linkFieldSize form) × (r ≤ headSize + directedLength) ⌝ }
+{
+    HEAD_SIZE + link_length(form)
+}
+
 // The size of a chart.
 pub fn chart_size(c: Chart) -> usize
     requires { ⌜ chartRefusal c ≡ 0 ⌝ }
     ensures { λ r. ⌜ r ≡ length (chartBytes c) ⌝ }
 {
     let nodes = c.nodes;
-    nodes_size(nodes) + LINK_FIELD_SIZE * (c.links.count as usize) + QUESTION_FIELD_SIZE
+    nodes_size(nodes)
+        + link_field_size(c.links.form) * (c.links.count as usize)
+        + QUESTION_FIELD_SIZE
 }
 
 // A field's tag and the length of its body, from an offset on.
@@ -119,16 +128,29 @@ fn put_nodes(out: &mut [u8], nodes: Nodes) -> usize
     at
 }
 
+// The field of a link of this form, from an offset on.
+fn put_link(out: &mut [u8], at: usize, form: u8, l: Link)
+    requires { ⌜ at + linkFieldSize form ≤ length (now out) ⌝ }
+    ensures { λ _. ⌜ now (out .exit) ≡ sets (now (out .entry)) at (linkField form l) ⌝ }
+{
+    let b = link_body(l);
+    if form == DIRECTED {
+        put_field(out, at, form, &b);
+        return;
+    }
+    put_field(out, at, form, &b[..PLAIN_LENGTH]);
+}
+
 // The links' fields, from an offset on.
 fn put_links(out: &mut [u8], at: usize, links: Links)
-    requires { ⌜ (links .count ≤ mostLinks) × (at + linkFieldSize * links .count ≤ length (now out)) ⌝ }
-    ensures { λ _. ⌜ now (out .exit) ≡ sets (now (out .entry)) at (joined linkField (linkAt links) (links .count)) ⌝ }
+    requires { ⌜ (links .count ≤ mostLinks) × (at + linkFieldSize (links .form) * links .count ≤ length (now out)) ⌝ }
+    ensures { λ _. ⌜ now (out .exit) ≡ sets (now (out .entry)) at (joined (linkField (links .form)) (linkAt links) (links .count)) ⌝ }
 {
+    let size = link_field_size(links.form);
     let mut i: usize = 0;
     while i < links.count as usize {
         let l = links.items[i];
-        let b = link_body(l);
-        put_field(out, at + LINK_FIELD_SIZE * i, LINK_TAG, &b);
+        put_link(out, at + size * i, links.form, l);
         i += 1;
     }
 }
@@ -142,7 +164,7 @@ pub fn put_chart(c: Chart, out: &mut [u8])
     let links = c.links;
     let at = put_nodes(out, nodes);
     put_links(out, at, links);
-    let next = at + LINK_FIELD_SIZE * (links.count as usize);
+    let next = at + link_field_size(links.form) * (links.count as usize);
     let b = question_body(c.from, c.to);
     put_field(out, next, QUESTION_TAG, &b);
 }

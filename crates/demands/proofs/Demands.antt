@@ -1,9 +1,9 @@
 -- The three demands: each statement is a theorem of the crate that it speaks of; what a refusal leaves is said here for every call.
 use Prim.Native.Nat.{ℕ, zero, suc}
 use mathlib.Core.Path.{_≡_, refl}
-use mathlib.Core.Bool.{cond}
+use mathlib.Core.Bool.{cond, _&&_}
 use mathlib.Core.List.{List, [], _∷_}
-use lib.Dec.{ltb}
+use lib.Dec.{eqb, ltb}
 use lib.ListN.{length}
 use Rattle.lists.proofs.Given.{Given, tested, either, among-more}
 use Rattle.lists.proofs.Refusals.{refused}
@@ -35,10 +35,15 @@ use Rattle.chart_read.specs.Reading.{readChartOf}
 use Rattle.chart_write.specs.Promises.{chartReaderRefusals}
 use Rattle.chart_refuse.proofs.Accepted.{accepted-exactly}
 use Rattle.chart_write.proofs.Promises as chart
-use Rattle.chart_door.proofs.Promises as chart-door
+use Rattle.chart_write_door.proofs.Promises as chart-door
 use Rattle.chart_write.proofs.Numbers.{reader-numbers, writer-numbers}
 use Rattle.chart_image.specs.Image.{chartIn}
-use Rattle.chart_door.specs.Calls.{pzChartReadRefusal, pzChartReadImage, pzChartWriteRefusal, pzChartWriteCount, pzChartWriteChart}
+use Rattle.chart.specs.Values.{plain, directed}
+use Rattle.chart_form.specs.Moving.{oneWay, movedBytes, moveRefusal}
+use Rattle.chart_form.proofs.Promises.{restore-undoes-renew, renew-undoes-restore, copied, one-way-refused}
+use Rattle.chart_read_door.specs.Calls.{pzChartReadRefusal, pzChartReadImage}
+use Rattle.chart_write_door.specs.Calls.{pzChartWriteRefusal, pzChartWriteCount, pzChartWriteChart}
+use Rattle.chart_form_door.specs.Calls.{pzChartRenewRefusal, pzChartRenewCount, pzChartRenewChart, pzChartRestoreRefusal, pzChartRestoreCount, pzChartRestoreChart}
 use Rattle.route_trace.proofs.Promises.{routes-listed}
 use Rattle.route_door.proofs.Promises.{every-route-called, short-called, unread-called, route-numbers}
 use Rattle.sheet.specs.Sheet.{sheetText, sheetRefusal, sheetAfter}
@@ -54,7 +59,23 @@ module _ (chart : List ℕ) (m : ℕ) where
   unfolding pzChartReadRefusal
   chart-read-given =
       either R (readChartOf chart .refusal) (record { is = among-more (readChartOf chart .refusal) chartReaderRefusals (10 ∷ []) (reader-numbers chart) })
-      (tested R 10 (ltb m 888) refl (record { is = refl }))
+      (tested R 10 (ltb m 937) refl (record { is = refl }))
+
+  chart-renew-given : Given R (pzChartRenewRefusal chart m)
+  unfolding pzChartRenewRefusal moveRefusal
+  chart-renew-given =
+      either R (readChartOf chart .refusal) (record { is = among-more (readChartOf chart .refusal) chartReaderRefusals (10 ∷ []) (reader-numbers chart) })
+      (tested R 10 (ltb m (length (movedBytes directed chart))) refl (record { is = refl }))
+
+  abbrev B : List ℕ
+  B = 0 ∷ 21 ∷ 22 ∷ 23 ∷ 24 ∷ 25 ∷ 26 ∷ 27 ∷ 28 ∷ 29 ∷ 30 ∷ 31 ∷ 32 ∷ 10 ∷ []
+
+  chart-restore-given : Given B (pzChartRestoreRefusal chart m)
+  unfolding pzChartRestoreRefusal moveRefusal
+  chart-restore-given =
+      either B (readChartOf chart .refusal) (record { is = among-more (readChartOf chart .refusal) chartReaderRefusals (32 ∷ 10 ∷ []) (reader-numbers chart) })
+      (tested B 32 (eqb plain plain && oneWay (readChartOf chart .chart .links)) refl
+      (tested B 10 (ltb m (length (movedBytes plain chart))) refl (record { is = refl })))
 
 module _ (image : List ℕ) (room : ℕ) where
   abbrev W : List ℕ
@@ -62,7 +83,7 @@ module _ (image : List ℕ) (room : ℕ) where
 
   chart-write-given : Given W (pzChartWriteRefusal image room)
   unfolding pzChartWriteRefusal
-  chart-write-given = tested W 10 (ltb (length image) 888) refl (record { is = writer-numbers (chartIn image) room })
+  chart-write-given = tested W 10 (ltb (length image) 937) refl (record { is = writer-numbers (chartIn image) room })
 
 sheet-given : (chart : List ℕ) (room : ℕ) → Given (0 ∷ 10 ∷ []) (sheetRefusal chart room)
 unfolding sheetRefusal
@@ -82,7 +103,7 @@ no-port (Refused k) h = refl
 -- ---- the demands
 
 every-call-answers : EveryCallAnswers
-unfolding pzReadImage pzWriteCount pzWriteFrame pzChoose pzChooseRefusal pzChooseLocal pzChoosePort pzAnswer pzAnswerImage pzTick pzTickImage pzClear pzClearImage pzAccept pzAcceptImage ledgerAfter acceptOf tickOf refusalOf pzChartReadImage pzChartWriteCount pzChartWriteChart sheetAfter
+unfolding pzReadImage pzWriteCount pzWriteFrame pzChoose pzChooseRefusal pzChooseLocal pzChoosePort pzAnswer pzAnswerImage pzTick pzTickImage pzClear pzClearImage pzAccept pzAcceptImage ledgerAfter acceptOf tickOf refusalOf pzChartReadImage pzChartWriteCount pzChartWriteChart pzChartRenewCount pzChartRenewChart pzChartRestoreCount pzChartRestoreChart sheetAfter
 every-call-answers =
     record {
       read = λ f image b. record { one-of = pz-read-numbers f b (length image); untouched = refused _ _ _; none-counted = λ h. refl };
@@ -95,6 +116,8 @@ every-call-answers =
       clear = λ ledger place. record { one-of = call-numbers (ledgerOf ledger) (clearing place) tt; untouched = refused _ _ _; none-counted = λ h. refl };
       chart-read = λ chart image. record { one-of = chart-read-given chart (length image) .is; untouched = refused _ _ _; none-counted = λ h. refl };
       chart-write = λ image chart. record { one-of = chart-write-given image (length chart) .is; untouched = refused _ _ _; none-counted = refused _ _ _ };
+      chart-renew = λ chart out. record { one-of = chart-renew-given chart (length out) .is; untouched = refused _ _ _; none-counted = refused _ _ _ };
+      chart-restore = λ chart out. record { one-of = chart-restore-given chart (length out) .is; untouched = refused _ _ _; none-counted = refused _ _ _ };
       routes = route-numbers;
       sheet = λ chart text. record { one-of = sheet-given chart (length text) .is; untouched = refused _ _ _; none-counted = refused _ _ _ };
     }
@@ -134,6 +157,10 @@ every-route-once =
       chart-image-read-undoes-write = chart-door.read-undoes-write;
       chart-image-write-undoes-read = chart-door.write-undoes-read;
       accepted = accepted-exactly;
+      restore-undoes-renew = restore-undoes-renew;
+      renew-undoes-restore = renew-undoes-restore;
+      copied = copied;
+      one-way-refused = one-way-refused;
       short = short-called;
       unread = unread-called;
     }

@@ -24,8 +24,11 @@ use Rattle.ledger_door.specs.Calls.{pzAnswer, pzAnswerImage, pzTick, pzTickImag
 use Rattle.ledger_door.specs.Promises.{ImagesFollow, Unreadable}
 use Rattle.chart_refuse.specs.Promises.{AcceptedExactly}
 use Rattle.chart_write.specs.Promises.{ChartReadUndoesWrite, ChartWriteUndoesRead}
-use Rattle.chart_door.specs.Promises.{ChartImageReadUndoesWrite, ChartImageWriteUndoesRead}
-use Rattle.chart_door.specs.Calls.{pzChartReadRefusal, pzChartReadImage, pzChartWriteRefusal, pzChartWriteCount, pzChartWriteChart}
+use Rattle.chart_write_door.specs.Promises.{ChartImageReadUndoesWrite, ChartImageWriteUndoesRead}
+use Rattle.chart_form.specs.Promises.{RestoreUndoesRenew, RenewUndoesRestore, Copied, OneWayRefused}
+use Rattle.chart_read_door.specs.Calls.{pzChartReadRefusal, pzChartReadImage}
+use Rattle.chart_write_door.specs.Calls.{pzChartWriteRefusal, pzChartWriteCount, pzChartWriteChart}
+use Rattle.chart_form_door.specs.Calls.{pzChartRenewRefusal, pzChartRenewCount, pzChartRenewChart, pzChartRestoreRefusal, pzChartRestoreCount, pzChartRestoreChart}
 use Rattle.route_trace.specs.Promises.{RoutesListed}
 use Rattle.route_door.specs.Promises.{EveryRouteCalled, ShortCalled, UnreadCalled, RouteNumbers}
 use Rattle.sheet.specs.Sheet.{sheetText, sheetRefusal, sheetAfter}
@@ -57,6 +60,11 @@ pub record EveryCallAnswers : Type 0 where
       → Answered (21 ∷ 22 ∷ 23 ∷ 24 ∷ 25 ∷ 26 ∷ 27 ∷ 28 ∷ 29 ∷ 30 ∷ 31 ∷ 10 ∷ []) (pzChartReadRefusal chart (length image)) 0 image (pzChartReadImage chart image)
   pub chart-write : (image chart : List ℕ)
       → Answered (10 ∷ 23 ∷ 24 ∷ 26 ∷ 27 ∷ 28 ∷ 29 ∷ 30 ∷ []) (pzChartWriteRefusal image (length chart)) (pzChartWriteCount image (length chart)) chart (pzChartWriteChart image chart)
+  -- a chart in the other form of links
+  pub chart-renew : (chart out : List ℕ)
+      → Answered (21 ∷ 22 ∷ 23 ∷ 24 ∷ 25 ∷ 26 ∷ 27 ∷ 28 ∷ 29 ∷ 30 ∷ 31 ∷ 10 ∷ []) (pzChartRenewRefusal chart (length out)) (pzChartRenewCount chart (length out)) out (pzChartRenewChart chart out)
+  pub chart-restore : (chart out : List ℕ)
+      → Answered (21 ∷ 22 ∷ 23 ∷ 24 ∷ 25 ∷ 26 ∷ 27 ∷ 28 ∷ 29 ∷ 30 ∷ 31 ∷ 32 ∷ 10 ∷ []) (pzChartRestoreRefusal chart (length out)) (pzChartRestoreCount chart (length out)) out (pzChartRestoreChart chart out)
   -- a route's length, 0 to 15, or a refusal, every one of which is above 15
   pub routes : RouteNumbers
   -- the printed sheet
@@ -95,6 +103,7 @@ pub record EnvelopesAndLegs : Type 0 where
   pub unreadable : Unreadable
 
 -- 3. First route, then the next after each until told there are no more: every route over enabled links that meets no node twice, each once, in order of link places.
+-- A link is passed only in its direction (document 02, Five).
 pub record EveryRouteOnce : Type 0 where
   -- the list of all routes (`routesOf`, which the sheet prints) has exactly the routes, each once, in order
   pub listed : RoutesListed
@@ -106,6 +115,11 @@ pub record EveryRouteOnce : Type 0 where
   pub chart-image-read-undoes-write : ChartImageReadUndoesWrite
   pub chart-image-write-undoes-read : ChartImageWriteUndoesRead
   pub accepted : AcceptedExactly
+  -- a chart moved to the other form of links comes back to the same bytes; one in the form asked for is copied; 32 exactly where a link does not go both ways
+  pub restore-undoes-renew : RestoreUndoesRenew
+  pub renew-undoes-restore : RenewUndoesRestore
+  pub copied : Copied
+  pub one-way-refused : OneWayRefused
   -- a buffer shorter than 15 is 42; a chart that is refused gives its own number
   pub short : ShortCalled
   pub unread : UnreadCalled

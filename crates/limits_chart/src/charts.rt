@@ -5,11 +5,13 @@ use address::Node;
 use address::Port;
 use address::Station;
 use buffer::Written;
+use chart::BOTH_WAYS;
 use chart::Chart;
 use chart::ChartNode;
 use chart::Link;
 use chart::Links;
 use chart::Nodes;
+use chart::PLAIN;
 use chart_read::ChartRead;
 use limits_script::byte;
 use limits_script::bytes;
@@ -148,14 +150,25 @@ fn end(node: u16, port: u16) -> Address {
     }
 }
 
-// Links that are all alike.
-fn links(count: u16, a: Address, b: Address) -> Links {
-    let link = Link { a, b, on: true };
+// Links of a form that are all alike.
+fn links_of(form: u8, direction: u8, count: u16, a: Address, b: Address) -> Links {
+    let link = Link {
+        a,
+        b,
+        on: true,
+        direction,
+    };
     let items = [link; 48];
     Links {
         count: byte(count),
+        form,
         items,
     }
+}
+
+// Plain links that are all alike.
+fn links(count: u16, a: Address, b: Address) -> Links {
+    links_of(PLAIN, BOTH_WAYS, count, a, b)
 }
 
 // Writes a chart that asks from 9/from to 9/to into a buffer of a length.
@@ -171,7 +184,7 @@ fn write_into(nodes: Nodes, links: Links, from: u16, to: u16, room: u16) {
 
 // Writes a chart into a buffer of a length.
 fn put_into(c: Chart, room: u16) {
-    let mut out = [0u8; 1065];
+    let mut out = [0u8; 1113];
     let n = taken(room, &out);
     report_written(chart_write::write_chart(c, &mut out[..n]));
 }
@@ -186,6 +199,18 @@ pub fn write(v: &[u16; 64]) {
         v[4],
         v[9],
         v[10],
+    );
+}
+
+// d form direction links room: number, bytes, 0. The nodes are 9/1 and 9/20; every link is from 9/1/2 to 9/20/1, of this form and direction.
+pub fn write_directed(v: &[u16; 64]) {
+    let ns = nodes(2, node(1, 0, 97));
+    write_into(
+        ns,
+        links_of(byte(v[0]), byte(v[1]), v[2], end(1, 2), end(20, 1)),
+        1,
+        20,
+        v[3],
     );
 }
 

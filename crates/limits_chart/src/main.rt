@@ -15,6 +15,7 @@ fn answer(letter: u8, v: &[u16; 64]) {
         b'C' => charts::read_built(v),
         b'v' => charts::write(v),
         b'V' => charts::write_built(v),
+        b'd' => charts::write_directed(v),
         b'1' => traces::first(v),
         b'2' => traces::next(v),
         b's' => sheets::zeros(v),

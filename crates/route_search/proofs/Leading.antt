@@ -1,6 +1,6 @@
 -- Far ends and the nodes met: where a link leads to, that its node is a place below 16, and that one node fewer is left once it is met.
 use mathlib.Core.Path.{_≡_, refl, sym, ap, subst, fun-ext, _∙_}
-use mathlib.Core.Bool.{Bool, true, false, cond}
+use mathlib.Core.Bool.{Bool, true, false, cond, _&&_}
 use mathlib.Core.Logic.{_⊎_, inl, inr}
 use mathlib.Core.Option.{some}
 use mathlib.Core.List.{List, []}
@@ -15,7 +15,7 @@ use Rattle.route.specs.Route.{Sound, also, only}
 use Rattle.route.specs.All.{unmet}
 use Rattle.route.proofs.Tests.{either}
 use Rattle.route.proofs.Laws.{also-self, also-other, unmet-also, unmet-only}
-use Rattle.route_search.specs.Contracts.{nodePlace, otherEnd, farNode, nodeOf, net, metOf, onlyMet, ifOpen, openOf, stepFrom}
+use Rattle.route_search.specs.Contracts.{nodePlace, isOut, isBack, otherEnd, farNode, nodeOf, net, metOf, onlyMet, ifOpen, openOf, stepFrom}
 use Rattle.route_search.specs.declared.Far.{Far}
 use Rattle.route_search.specs.declared.Far.the-variants.{Node, None}
 use Rattle.route_search.specs.declared.Step.the-variants.{By, End}
@@ -34,29 +34,33 @@ node-below m n e = go (ltb m 16) refl e
     go true h q = let z : m ≡ n = cc in let l = ltb-true m 16 h in omega arith
     go false h q = never (cc)
 
-other-below : (o p q : Bool) (a b n : ℕ) → cond o (cond p (nodePlace b) (cond q (nodePlace a) None)) None ≡ Node n → n < 16
-other-below false p q a b n e = never (cc)
-other-below true true q a b n e = node-below b n e
-other-below true false true a b n e = node-below a n e
-other-below true false false a b n e = never (cc)
+other-below : (o p : Bool) (a b n : ℕ) → cond o (nodePlace b) (cond p (nodePlace a) None) ≡ Node n → n < 16
+other-below true p a b n e = node-below b n e
+other-below false true a b n e = node-below a n e
+other-below false false a b n e = never (cc)
 
--- the other end, test by test
+and-comm : (x y : Bool) → (x && y) ≡ (y && x)
+and-comm true true = refl
+and-comm true false = refl
+and-comm false true = refl
+and-comm false false = refl
+
+-- the other end: the second from the first, or else the first from the second
 module _ (e : List ℕ) (way n : ℕ) where
-  pub other-off : (way ≡ 1 → ⊥) → None ≡ otherEnd e way n
-  unfolding otherEnd
-  other-off o = rw (ne-eqb way 1 o)
+  abbrev firstEnd : Far
+  firstEnd = cond (eqb (getD e 1 0) n && isBack way) (nodePlace (getD e 0 0)) None
 
-  pub other-second : way ≡ 1 → getD e 0 0 ≡ n → nodePlace (getD e 1 0) ≡ otherEnd e way n
+  pub other-second : getD e 0 0 ≡ n → isOut way ≡ true → nodePlace (getD e 1 0) ≡ otherEnd e way n
   unfolding otherEnd
-  other-second o p = rw (eq-eqb way 1 o, eq-eqb (getD e 0 0) n p)
+  other-second p o = rw (eq-eqb (getD e 0 0) n p, o)
 
-  pub other-first : way ≡ 1 → (getD e 0 0 ≡ n → ⊥) → getD e 1 0 ≡ n → nodePlace (getD e 0 0) ≡ otherEnd e way n
+  pub other-away : (getD e 0 0 ≡ n → ⊥) → firstEnd ≡ otherEnd e way n
   unfolding otherEnd
-  other-first o p q = rw (eq-eqb way 1 o, ne-eqb (getD e 0 0) n p, eq-eqb (getD e 1 0) n q)
+  other-away p = rw (and-comm (isOut way) (eqb (getD e 0 0) n), and-comm (isBack way) (eqb (getD e 1 0) n), ne-eqb (getD e 0 0) n p)
 
-  pub other-none : way ≡ 1 → (getD e 0 0 ≡ n → ⊥) → (getD e 1 0 ≡ n → ⊥) → None ≡ otherEnd e way n
+  pub other-first : isOut way ≡ false → firstEnd ≡ otherEnd e way n
   unfolding otherEnd
-  other-none o p q = rw (eq-eqb way 1 o, ne-eqb (getD e 0 0) n p, ne-eqb (getD e 1 0) n q)
+  other-first o = rw (and-comm (isBack way) (eqb (getD e 1 0) n), o)
 
 module _ (ends : List (List ℕ)) (ways : List ℕ) (links : ℕ) where
   -- where there is such a link, the far end is the link's other end
@@ -73,7 +77,7 @@ module _ (ends : List (List ℕ)) (ways : List ℕ) (links : ℕ) where
       go true q =
           let a = getD (getD ends i []) 0 0 in
           let b = getD (getD ends i []) 1 0 in
-          other-below (eqb (getD ways i 0) 1) (eqb a at) (eqb b at) a b n q
+          other-below (isOut (getD ways i 0) && eqb a at) (isBack (getD ways i 0) && eqb b at) a b n q
 
   pub far-inside : (i at n : ℕ) → farNode ends ways links i at ≡ Node n → i < links
   unfolding farNode

@@ -1,7 +1,7 @@
--- The search over what the trace keeps by value (document 01, "Routes and their order"): the two ends of each link as node places, the passage of each link (1 both
--- ways, 0 none), and one flag for each node met; and the steps of the search.
+-- The search over what the trace keeps by value (document 01, "Routes and their order"): the two ends of each link as node places, the passage of each link (0 none,
+-- 1 both ways, 2 out, 3 back), and one flag for each node met; and the steps of the search.
 use Prim.Native.Nat.{ℕ, zero, suc, _+_, _-_}
-use mathlib.Core.Bool.{Bool, true, false, cond}
+use mathlib.Core.Bool.{Bool, true, false, _&&_, _||_, cond}
 use mathlib.Core.Option.{Option, none, some}
 use mathlib.Core.List.{List, [], _++_}
 use lib.ListN.{length, getD, set, take, replicate}
@@ -25,12 +25,19 @@ use Rattle.route_search.specs.Answers.{longestRoute, Told, told, firstRe
 unfoldable pub nodePlace : ℕ → Far
 nodePlace n = cond (ltb n mostNodes) (Node n) None
 
--- the other end of a link from the node n: the link is passed both ways (way 1), or not at all
+-- the ways of which a link is passed from its first end to its second, and from its second to its first
+unfoldable pub isOut : ℕ → Bool
+isOut way = eqb way 1 || eqb way 2
+
+unfoldable pub isBack : ℕ → Bool
+isBack way = eqb way 1 || eqb way 3
+
+-- the other end of a link from the node n
 unfoldable pub otherEnd : List ℕ → ℕ → ℕ → Far
 otherEnd e way n =
-    cond (eqb way 1)
-    (cond (eqb (getD e 0 0) n) (nodePlace (getD e 1 0)) (cond (eqb (getD e 1 0) n) (nodePlace (getD e 0 0)) None))
-    None
+    cond (isOut way && eqb (getD e 0 0) n) (nodePlace (getD e 1 0))
+    (cond (isBack way && eqb (getD e 1 0) n) (nodePlace (getD e 0 0))
+    None)
 
 -- the far end of link i from the node n, if there is such a link
 unfoldable pub farNode : List (List ℕ) → List ℕ → ℕ → ℕ → ℕ → Far

@@ -1,7 +1,7 @@
--- No sheet is longer than 47,129 bytes: every value of an accepted chart is in range, and a route has at most 15 links.
+-- No sheet is longer than 47,369 bytes: every value of an accepted chart is in range, and a route has at most 15 links.
 use Prim.Native.Nat.{ℕ, suc, zero, _<_, _≤_}
 use mathlib.Core.Path.{_≡_, refl}
-use mathlib.Core.Bool.{Bool, true, false, cond, not}
+use mathlib.Core.Bool.{Bool, true, false, cond, not, _&&_}
 use mathlib.Core.List.{List, List·Memᴰ}
 use native.Mathlib.Omega.{arith}
 use lib.ListN.{length, length-append}
@@ -18,7 +18,7 @@ use Rattle.address.specs.Address.{stationInRange, inRange}
 use Rattle.chart.specs.declared.ChartNode.{ChartNode}
 use Rattle.chart.specs.declared.Link.{Link}
 use Rattle.chart.specs.declared.Chart.{Chart}
-use Rattle.chart.specs.Values.{nodeAt, linkAt, strayByte, nodeInRange, endInRange, linkInRange}
+use Rattle.chart.specs.Values.{nodeAt, linkAt, strayByte, nodeInRange, endInRange, directionInRange, linkInRange}
 use Rattle.chart.proofs.Laws.{question-passed}
 use Rattle.chart_read.specs.declared.ChartRead.{ChartRead}
 use Rattle.chart_read.specs.Reading.{readChartOf}
@@ -49,10 +49,11 @@ end-in : (e : Address) → endInRange e ≡ true → inRange e ≡ true
 unfolding endInRange
 end-in e h = and-right (leb 1 (e .port .0)) (inRange e) h
 
-link-ends : (l : Link) → linkInRange l ≡ true → (inRange (l .a) ≡ true) × (inRange (l .b) ≡ true)
+link-ends : (form : ℕ) (l : Link) → linkInRange form l ≡ true → (inRange (l .a) ≡ true) × (inRange (l .b) ≡ true)
 unfolding linkInRange
-link-ends l h =
-    (end-in (l .a) (and-left (endInRange (l .a)) (endInRange (l .b)) h), end-in (l .b) (and-right (endInRange (l .a)) (endInRange (l .b)) h))
+link-ends form l h =
+    let ends = and-left (endInRange (l .a) && endInRange (l .b)) (directionInRange form (l .direction)) h in
+    (end-in (l .a) (and-left (endInRange (l .a)) (endInRange (l .b)) ends), end-in (l .b) (and-right (endInRange (l .a)) (endInRange (l .b)) ends))
 
 module _ (c : Chart) (ok : chartRefusal c ≡ 0) where
   p : Passed c
@@ -66,12 +67,12 @@ module _ (c : Chart) (ok : chartRefusal c ≡ 0) where
       (λ i l. let n = node-of c p i l in node-long i (nodeAt (c .nodes) i) (omega arith) (node-station (nodeAt (c .nodes) i) (n .ranged)) (n .short)) in
       omega arith
 
-  links-long : length (joined (lineAt linkLine (linkAt (c .links))) place (c .links .count)) ≤ 1488
+  links-long : length (joined (lineAt linkLine (linkAt (c .links))) place (c .links .count)) ≤ 1728
   unfolding lineAt
   links-long =
       let few = p .few-links in
-      let h = joined-most (lineAt linkLine (linkAt (c .links))) place 31 (c .links .count)
-      (λ i l. let e = link-ends (linkAt (c .links) i) (link-of c p i l .ranged) in link-long i (linkAt (c .links) i) (omega arith) (e .0) (e .1)) in
+      let h = joined-most (lineAt linkLine (linkAt (c .links))) place 36 (c .links .count)
+      (λ i l. let e = link-ends (c .links .form) (linkAt (c .links) i) (link-of c p i l .ranged) in link-long i (linkAt (c .links) i) (omega arith) (e .0) (e .1)) in
       omega arith
 
   one-long : (r : List ℕ) → List·Memᴰ r (routesOf c) → length (routeLine r) ≤ 45
@@ -84,7 +85,7 @@ module _ (c : Chart) (ok : chartRefusal c ≡ 0) where
       let links = p .few-links in
       route-long (chartNet c) (omega arith) q (omega arith)
 
-  chart-long : length (chartText c) ≤ 47129
+  chart-long : length (chartText c) ≤ 47369
   unfolding chartText
   chart-long =
       let few-nodes = p .few-nodes in
@@ -98,12 +99,12 @@ module _ (c : Chart) (ok : chartRefusal c ≡ 0) where
       let r : length (listText 1000 (routesOf c)) ≤ 45005 = list-long 45 1000 (routesOf c) one-long in
       rw (length-append, length-append, length-append, length-append) (omega arith)
 
-either-long : (k : ℕ) (a b : List ℕ) → (k ≡ 0 → length a ≤ 47129) → length b ≤ 47129 → length (unlessRefused k a b) ≤ 47129
+either-long : (k : ℕ) (a b : List ℕ) → (k ≡ 0 → length a ≤ 47369) → length b ≤ 47369 → length (unlessRefused k a b) ≤ 47369
 unfolding unlessRefused
 either-long zero a b h l = h refl
 either-long (suc k) a b h l = l
 
-read-long : (r : ChartRead) → (r .refusal ≡ 0 → chartRefusal (r .chart) ≡ 0) → length (readText r) ≤ 47129
+read-long : (r : ChartRead) → (r .refusal ≡ 0 → chartRefusal (r .chart) ≡ 0) → length (readText r) ≤ 47369
 unfolding readText
 read-long r ok =
     let l = refused-long (r .refusal) (r .place) in
@@ -113,7 +114,7 @@ pub sheet-short : SheetShort
 unfolding sheetText
 sheet-short bytes s = go (ltb 4096 (length bytes))
   where
-    go : (b : Bool) → length (cond b longLine (readText (readChartOf bytes))) ≤ 47129
+    go : (b : Bool) → length (cond b longLine (readText (readChartOf bytes))) ≤ 47369
     go true = omega arith
     go false = read-long (readChartOf bytes) (read-accepted bytes s (readChartOf bytes) refl)
 
@@ -121,6 +122,6 @@ sheet-short bytes s = go (ltb 4096 (length bytes))
 pub wrote-short : WrittenShort
 unfolding writeSheetOf
 wrote-short bytes s room n e =
-    let h : length (sheetText bytes) ≤ 47129 = sheet-short bytes s in
+    let h : length (sheetText bytes) ≤ 47369 = sheet-short bytes s in
     let k : n ≡ length (sheetText bytes) = wrote-size n (sheetRefusal bytes room) (length (sheetText bytes)) e .1 in
     omega arith

@@ -1,4 +1,4 @@
-// The printed sheet (document 01, "The printed sheet"): what is printed of an input, in a lent buffer.
+// The printed sheet (document 01, "The printed sheet"; document 02, Five): what is printed of an input, in a lent buffer.
 use buffer::Written;
 use chart::Chart;
 use chart::Links;
@@ -36,7 +36,7 @@ pub const LONGEST_INPUT: usize = 4096;
 pub const MOST_ROUTES: usize = 1000;
 
 // No sheet is longer: a buffer of this size is never refused.
-pub const LONGEST_SHEET: usize = 47129;
+pub const LONGEST_SHEET: usize = 47369;
 
 // The node lines.
 fn put_nodes(out: &mut [u8], at: usize, nodes: Nodes) -> usize

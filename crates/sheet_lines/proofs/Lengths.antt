@@ -1,21 +1,22 @@
 -- How long the lines are, with their values in range.
 use Prim.Native.Nat.{ℕ, _+_, _<_, _≤_}
 use mathlib.Core.Path.{_≡_}
-use mathlib.Core.Bool.{Bool, true, false}
+use mathlib.Core.Bool.{Bool, true, false, cond}
 use mathlib.Core.List.{List, [], _∷_}
 use native.Mathlib.Omega.{arith}
 use borrow.Author.Tests.{leb-true}
 use lib.ListN.{length, take, length-append, length-take}
-use lib.Dec.{leb}
+use lib.Dec.{eqb, leb}
 use Rattle.lists.proofs.Bools.{and-left, and-right}
 use Rattle.address.specs.declared.Station.{Station}
 use Rattle.address.specs.declared.Address.{Address}
 use Rattle.address.specs.Address.{stationOf, stationInRange, inRange}
 use Rattle.chart.specs.declared.ChartNode.{ChartNode}
 use Rattle.chart.specs.declared.Link.{Link}
+use Rattle.text.specs.Marks.{ascii}
 use Rattle.text.specs.Decimal.{decimal}
 use Rattle.text.proofs.Lengths.{two, three, four}
-use Rattle.sheet_lines.specs.Lines.{stationText, endText, labelText, nodeLine, onOff, linkLine, questionLine}
+use Rattle.sheet_lines.specs.Lines.{stationText, endText, labelText, nodeLine, onOff, directionText, linkLine, questionLine}
 
 -- a station in range
 station-range : (s : Station) → stationInRange s ≡ true → (s .brigade < 1000) × (s .node .0 < 10000)
@@ -65,14 +66,24 @@ on-long : (on : Bool) → length (onOff on) ≤ 3
 on-long true = omega arith
 on-long false = omega arith
 
-pub link-long : (i : ℕ) (l : Link) → i < 100 → inRange (l .a) ≡ true → inRange (l .b) ≡ true → length (linkLine i l) ≤ 31
+direction-long : (d : ℕ) → length (directionText d) ≤ 4
+unfolding directionText
+direction-long d = go (eqb d 0) (eqb d 1)
+  where
+    go : (b o : Bool) → length (cond b (ascii "both") (cond o (ascii "out") (ascii "back"))) ≤ 4
+    go true o = omega arith
+    go false true = omega arith
+    go false false = omega arith
+
+pub link-long : (i : ℕ) (l : Link) → i < 100 → inRange (l .a) ≡ true → inRange (l .b) ≡ true → length (linkLine i l) ≤ 36
 unfolding linkLine
 link-long i l h a b =
     let p : length (decimal i) ≤ 2 = two 20 i h in
     let q = end-long (l .a) a in
     let r = end-long (l .b) b in
     let o = on-long (l .on) in
-    rw (length-append, length-append, length-append, length-append, length-append, length-append, length-append) (omega arith)
+    let d = direction-long (l .direction) in
+    rw (length-append, length-append, length-append, length-append, length-append, length-append, length-append, length-append, length-append) (omega arith)
 
 pub question-long : (from to : Station) → stationInRange from ≡ true → stationInRange to ≡ true → length (questionLine from to) ≤ 26
 unfolding questionLine

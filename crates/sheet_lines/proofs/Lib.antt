@@ -1,3 +1,4 @@
+pub mod Directions
 pub mod Labels
 pub mod Lengths
 pub mod NumberLengths

@@ -1,7 +1,8 @@
--- The lines of the printed sheet but its routes (document 01, "The printed sheet"), as ASCII codes; each ends with one line feed.
+-- The lines of the printed sheet but its routes (document 01, "The printed sheet"; document 02, Five), as ASCII codes; each ends with one line feed.
 -- `a ++ b ++ c` is `(a ++ b) ++ c`: what was laid is joined in the same order.
 use Prim.Native.Nat.{ℕ}
-use mathlib.Core.Bool.{Bool, true, false}
+use mathlib.Core.Bool.{Bool, true, false, cond}
+use lib.Dec.{eqb}
 use mathlib.Core.List.{List, [], _∷_, _++_}
 use lib.ListN.{take}
 use Rattle.address.specs.declared.Station.{Station}
@@ -9,6 +10,7 @@ use Rattle.address.specs.declared.Address.{Address}
 use Rattle.address.specs.Address.{stationOf}
 use Rattle.chart.specs.declared.ChartNode.{ChartNode}
 use Rattle.chart.specs.declared.Link.{Link}
+use Rattle.chart.specs.Values.{bothWays, outOnly}
 use Rattle.text.specs.Marks.{ascii, blank, slash, lf}
 use Rattle.text.specs.Decimal.{decimal}
 
@@ -34,9 +36,13 @@ abbrev pub onOff : Bool → List ℕ
 onOff true = ascii "on"
 onOff false = ascii "off"
 
--- a link: its place, its two ends, whether it is on
+-- its direction: 0, 1 and 2
+unfoldable pub directionText : ℕ → List ℕ
+directionText d = cond (eqb d bothWays) (ascii "both") (cond (eqb d outOnly) (ascii "out") (ascii "back"))
+
+-- a link: its place, its two ends, whether it is on, its direction
 unfoldable pub linkLine : ℕ → Link → List ℕ
-linkLine i l = decimal i ++ blank ++ endText (l .a) ++ blank ++ endText (l .b) ++ blank ++ onOff (l .on) ++ lf
+linkLine i l = decimal i ++ blank ++ endText (l .a) ++ blank ++ endText (l .b) ++ blank ++ onOff (l .on) ++ blank ++ directionText (l .direction) ++ lf
 
 -- the question
 unfoldable pub questionLine : Station → Station → List ℕ

@@ -1,8 +1,10 @@
-// The lines of the printed sheet but its routes (document 01, "The printed sheet").
+// The lines of the printed sheet but its routes (document 01, "The printed sheet"; document 02, Five).
 use address::Address;
 use address::Station;
+use chart::BOTH_WAYS;
 use chart::ChartNode;
 use chart::Link;
+use chart::OUT_ONLY;
 use text::put_byte;
 use text::put_bytes;
 use text::put_number;
@@ -11,7 +13,7 @@ ghost use lib.ListN.{take};
 ghost use Rattle.text.specs.Contracts.{Laid};
 ghost use Rattle.text.specs.Marks.{blank, lf};
 ghost use Rattle.text.specs.Decimal.{decimal};
-ghost use Rattle.sheet_lines.specs.Lines.{stationText, endText, labelText, nodeLine, onOff, linkLine, questionLine};
+ghost use Rattle.sheet_lines.specs.Lines.{stationText, endText, labelText, nodeLine, onOff, directionText, linkLine, questionLine};
 
 mod numbers;
 
@@ -66,14 +68,27 @@ pub fn put_node(out: &mut [u8], at: usize, i: usize, n: ChartNode) -> usize
     put_byte(out, n3, b'\n')
 }
 
-// A blank, whether a link is on, and the line's end.
+// A blank, and whether a link is on.
 fn put_on(out: &mut [u8], at: usize, on: bool) -> usize
-    ensures { λ r. ⌜ Laid (now (out .entry)) at (blank ++ onOff on ++ lf) (now (out .exit)) r ⌝ }
+    ensures { λ r. ⌜ Laid (now (out .entry)) at (blank ++ onOff on) (now (out .exit)) r ⌝ }
 {
     if on {
-        return put_bytes(out, at, b" on\n");
+        return put_bytes(out, at, b" on");
     }
-    put_bytes(out, at, b" off\n")
+    put_bytes(out, at, b" off")
+}
+
+// A blank, a link's direction, and the line's end.
+fn put_direction(out: &mut [u8], at: usize, d: u8) -> usize
+    ensures { λ r. ⌜ Laid (now (out .entry)) at (blank ++ directionText d ++ lf) (now (out .exit)) r ⌝ }
+{
+    if d == BOTH_WAYS {
+        return put_bytes(out, at, b" both\n");
+    }
+    if d == OUT_ONLY {
+        return put_bytes(out, at, b" out\n");
+    }
+    put_bytes(out, at, b" back\n")
 }
 
 // The line of the link at a place.
@@ -85,7 +100,8 @@ pub fn put_link(out: &mut [u8], at: usize, i: usize, l: Link) -> usize
     let n1 = put_number(out, at, i);
     let n2 = put_end(out, n1, a);
     let n3 = put_end(out, n2, b);
-    put_on(out, n3, l.on)
+    let n4 = put_on(out, n3, l.on);
+    put_direction(out, n4, l.direction)
 }
 
 // The question's line.

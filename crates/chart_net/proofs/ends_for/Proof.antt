@@ -19,7 +19,7 @@ abbrev μ-loop : tie.MeasureT-loop
 
 -- the array has 48 places
 whole : (s : tie.Start Inv-loop μ-loop) → length (s .args .t2 .items) ≡ 48
-whole s = simp length-map at (s .good .1 .0 .1 .1 .1 .0 .1 .0 .1)
+whole s = simp length-map at (s .good .1 .0 .1 .1 .1 .1 .0 .1 .0 .1)
 
 returns : tie.Need-returns Inv-loop μ-loop
 returns c = ends-many (c .before .args .t2) (c .before .args .nodes) (c .if1 .taken)

@@ -18,7 +18,7 @@ abbrev μ-loop : tie.MeasureT-loop
 
 -- the array has 48 places
 whole : (s : tie.Start Inv-loop μ-loop) → length (s .args .t1 .items) ≡ 48
-whole s = simp length-map at (s .good .0 .1 .1 .1 .0 .1 .0 .1)
+whole s = simp length-map at (s .good .0 .1 .1 .1 .1 .0 .1 .0 .1)
 
 returns : tie.Need-returns Inv-loop μ-loop
 returns c = ways-many _ (c .if1 .taken)

@@ -8,8 +8,9 @@ use borrow.Author.Needs.{needs}
 use borrow.Author.Tests.{not-true, not-false}
 use Rattle.buffer.specs.Bytes.{Bytes}
 use Rattle.chart_read.specs.Contracts.{asKeys}
+use Rattle.chart_read.proofs.Laws.{form-tag, no-form}
 use Rattle.chart_read.proofs.Taking.{node-left, link-left}
-use Rattle.chart_read.proofs.Holding.{Turn, Holding, Field, Accepted, holding-start, refused-field, whole-field, next-is, node-length, link-length, holding-node, holding-link, holding-question, ends-unasked, ends-asked}
+use Rattle.chart_read.proofs.Holding.{Turn, Holding, Field, Accepted, holding-start, refused-field, whole-field, node-length, link-length, holding-node, holding-link, holding-question, ends-unasked, ends-asked}
 use Rattle.chart_read.proofs.read_chart.Statement.{statement}
 use Rattle.chart_read.proofs.read_chart.Tie as tie
 
@@ -41,19 +42,19 @@ field : (c : tie.After-take-field Inv-loop μ-loop) → Field (input (here c)) (
 field c = record { holding = here c .loop .inv; all-bytes = all-bytes (here c); begins = c .before .before .before .before .loop-test .taken }
 
 -- a field that is taken: its number is 0, and its body and the place past it are at hand
-abbrev taking : tie.After-field-end Inv-loop μ-loop → tie.After-take-field Inv-loop μ-loop
+abbrev taking : tie.After-past-field Inv-loop μ-loop → tie.After-take-field Inv-loop μ-loop
 taking c = c .before .before .before .before .before .before
 
-accepted : (c : tie.After-field-end Inv-loop μ-loop)
+accepted : (c : tie.After-past-field Inv-loop μ-loop)
     → let a = taking c in
-    Accepted (input (here a)) (turn (here a)) (c .before .before .before .body-at .result .now) (c .field-end .result)
+    Accepted (input (here a)) (turn (here a)) (c .before .before .before .body-at .result .now) (c .past-field .result)
 accepted c =
     let a = taking c in
     record {
       field = field a;
       zero = sym (a .take-field .ensures .refusal) ∙ c .before .before .before .before .if1 .left;
       body = c .before .before .before .body-at .ensures;
-      past = c .field-end .ensures;
+      past = c .past-field .ensures;
     }
 
 no-node-requires : tie.Need-no-node-requires Inv-loop μ-loop
@@ -84,8 +85,8 @@ body-at-requires c κs =
 shared-slice-read-tag : tie.Need-shared-slice-read-tag Inv-loop μ-loop
 shared-slice-read-tag c = search needs
 
-field-end-requires : tie.Need-field-end-requires Inv-loop μ-loop
-field-end-requires c κs = search needs
+past-field-requires : tie.Need-past-field-requires Inv-loop μ-loop
+past-field-requires c κs = search needs
 
 node-in-requires : tie.Need-node-in-requires Inv-loop μ-loop
 node-in-requires c κs = node-length (accepted (c .before)) (c .match .keys1)
@@ -99,27 +100,27 @@ array-set-from-nodes c =
     omega (arith, node-left _ _ _ (f .zero) (c .before .match .keys1), f .field .holding .held .long-nodes)
 
 loop-less : tie.Need-loop-less Inv-loop μ-loop
-loop-less c = let f = accepted (c .before .before) in omega (arith, next-is f, f .field .begins)
+loop-less c = let f = accepted (c .before .before) in omega (arith, f .past, f .field .begins)
 
 loop-again : tie.Need-loop-again Inv-loop μ-loop
 loop-again c = holding-node (accepted (c .before .before)) _ _ (c .before .before .before .before .before .before .before .before .take-field .ensures) (c .before .match .keys1) _ (c .node-in .ensures)
 
 link-in-requires : tie.Need-link-in-requires Inv-loop μ-loop
-link-in-requires c κs = link-length (accepted (c .before)) (c .match .keys2)
+link-in-requires c κs = link-length (accepted (c .before)) (form-tag _ (c .match .keys2))
 
 mul-links : tie.Need-mul-links Inv-loop μ-loop
-mul-links c = record { fits = omega (arith, link-left _ _ _ (accepted (c .before .before) .zero) (c .before .match .keys2)) }
+mul-links c = record { fits = omega (arith, link-left _ _ _ (accepted (c .before .before) .zero) (form-tag _ (c .before .match .keys2))) }
 
 array-set-from-links : tie.Need-array-set-from-links Inv-loop μ-loop
 array-set-from-links c =
     let f = accepted (c .before .before) in
-    omega (arith, link-left _ _ _ (f .zero) (c .before .match .keys2), f .field .holding .held .long-links)
+    omega (arith, link-left _ _ _ (f .zero) (form-tag _ (c .before .match .keys2)), f .field .holding .held .long-links)
 
 loop-less-2 : tie.Need-loop-less-2 Inv-loop μ-loop
-loop-less-2 c = let f = accepted (c .before .before) in omega (arith, next-is f, f .field .begins)
+loop-less-2 c = let f = accepted (c .before .before) in omega (arith, f .past, f .field .begins)
 
 loop-again-2 : tie.Need-loop-again-2 Inv-loop μ-loop
-loop-again-2 c = holding-link (accepted (c .before .before)) _ _ (c .before .before .before .before .before .before .before .before .take-field .ensures) (c .before .match .keys2) _ (c .link-in .ensures)
+loop-again-2 c = holding-link (accepted (c .before .before)) _ _ (c .before .before .before .before .before .before .before .before .take-field .ensures) (form-tag _ (c .before .match .keys2)) _ (c .link-in .ensures)
 
 station-in-requires : tie.Need-station-in-requires Inv-loop μ-loop
 station-in-requires c κs = search needs
@@ -128,12 +129,12 @@ station-in-requires-2 : tie.Need-station-in-requires-2 Inv-loop μ-loop
 station-in-requires-2 c κs = search needs
 
 loop-less-3 : tie.Need-loop-less-3 Inv-loop μ-loop
-loop-less-3 c = let f = accepted (c .before .before .before) in omega (arith, next-is f, f .field .begins)
+loop-less-3 c = let f = accepted (c .before .before .before) in omega (arith, f .past, f .field .begins)
 
 loop-again-3 : tie.Need-loop-again-3 Inv-loop μ-loop
 loop-again-3 c =
     let r = c .before .before .match .rest in
-    holding-question (accepted (c .before .before .before)) _ _ (c .before .before .before .before .before .before .before .before .before .take-field .ensures) (r .0 .1) (r .1) (c .before .station-in .ensures) (c .station-in2 .ensures)
+    holding-question (accepted (c .before .before .before)) _ _ (c .before .before .before .before .before .before .before .before .before .take-field .ensures) (r .0 .1) (no-form _ (r .1)) (c .before .station-in .ensures) (c .station-in2 .ensures)
 
 refused-at-requires-2 : tie.Need-refused-at-requires-2 Inv-loop μ-loop
 refused-at-requires-2 c κs = search needs
@@ -168,7 +169,7 @@ read-chart-spec =
     returns
     body-at-requires
     shared-slice-read-tag
-    field-end-requires
+    past-field-requires
     node-in-requires
     mul-nodes
     array-set-from-nodes

@@ -25,7 +25,7 @@ abbrev μ-loop : tie.MeasureT-loop
 
 -- the array has 48 places
 whole : (s : tie.Start Inv-loop μ-loop) → length (s .args .t3 .items) ≡ 48
-whole s = simp length-map at (s .good .1 .1 .0 .1 .1 .1 .0 .1 .0 .1)
+whole s = simp length-map at (s .good .1 .1 .0 .1 .1 .1 .1 .0 .1 .0 .1)
 
 loop-holds : tie.Need-loop-holds Inv-loop μ-loop
 loop-holds c = (omega arith, refl, said (sym (joined-none (lineAt linkLine (linkAt (c .before .args .t3))) place)) (nothing (omega arith) (omega arith)))

@@ -22,7 +22,7 @@ returns : tie.Need-returns
 returns c =
     let a = c .before .before .before .before .before .before .before .args in
     let put = c .before .before .put-sheet in
-    let h : length (sheetText (a .bytes .now)) ≤ 47129 = sheet-short (a .bytes .now) (λ i. c .before .before .before .before .before .before .shared-slice-known .given i .fits) in
+    let h : length (sheetText (a .bytes .now)) ≤ 47369 = sheet-short (a .bytes .now) (λ i. c .before .before .before .before .before .before .shared-slice-known .given i .fits) in
     sheet-wrote (a .bytes .now) (a .out .now) (omega arith) (omega (arith, put .ensures .place)) (put .ensures)
 
 slice-relend-prefix-put-sheet : tie.Need-slice-relend-prefix-put-sheet

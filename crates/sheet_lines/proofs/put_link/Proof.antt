@@ -18,17 +18,21 @@ put-end-requires-2 c κs = search needs
 put-on-requires : tie.Need-put-on-requires
 put-on-requires c κs = search needs
 
+put-direction-requires : tie.Need-put-direction-requires
+put-direction-requires c κs = search needs
+
 same-length : tie.Need-same-length
 same-length c = search needs
 
 returns : tie.Need-returns
 unfolding linkLine
 returns c =
-    let c4 = c .before .before in
+    let c5 = c .before .before in
+    let c4 = c5 .before .before .before .before in
     let c3 = c4 .before .before .before .before in
     let c2 = c3 .before .before .before .before in
     let c1 = c2 .before .before .before .before in
-    said (simp append-assoc) (c1 .put-number .ensures ▸ c2 .put-end .ensures ▸ c3 .put-end2 .ensures ▸ c4 .put-on .ensures)
+    said (simp append-assoc) (c1 .put-number .ensures ▸ c2 .put-end .ensures ▸ c3 .put-end2 .ensures ▸ c4 .put-on .ensures ▸ c5 .put-direction .ensures)
 
 pub put-link-spec : {M : Type 1} → statement M
 put-link-spec =
@@ -38,5 +42,6 @@ put-link-spec =
     put-end-requires
     put-end-requires-2
     put-on-requires
+    put-direction-requires
     same-length
     returns)

@@ -2,7 +2,7 @@
 use mathlib.Core.Path.{sym, ap}
 use mathlib.Core.Bool.{Bool}
 use mathlib.Core.List.{_++_}
-use Rattle.text.specs.Marks.{blank, lf}
+use Rattle.text.specs.Marks.{blank}
 use Rattle.text.proofs.Joining.{said}
 use Rattle.sheet_lines.specs.Lines.{onOff}
 use borrow.Author.Needs.{needs}
@@ -19,7 +19,7 @@ same-length : tie.Need-same-length
 same-length c = search needs
 
 returns : tie.Need-returns
-returns c = said (ap (λ (o : Bool). blank ++ onOff o ++ lf) (sym (c .before .before .before .before .before .if1 .taken))) (c .before .before .put-bytes .ensures)
+returns c = said (ap (λ (o : Bool). blank ++ onOff o) (sym (c .before .before .before .before .before .if1 .taken))) (c .before .before .put-bytes .ensures)
 
 slice-aggregate-put-bytes-2 : tie.Need-slice-aggregate-put-bytes-2
 slice-aggregate-put-bytes-2 c = search needs
@@ -31,7 +31,7 @@ same-length-2 : tie.Need-same-length-2
 same-length-2 c = search needs
 
 returns-2 : tie.Need-returns-2
-returns-2 c = said (ap (λ (o : Bool). blank ++ onOff o ++ lf) (sym (c .before .before .before .before .before .if1 .left))) (c .before .before .put-bytes2 .ensures)
+returns-2 c = said (ap (λ (o : Bool). blank ++ onOff o) (sym (c .before .before .before .before .before .if1 .left))) (c .before .before .put-bytes2 .ensures)
 
 pub put-on-spec : {M : Type 1} → statement M
 put-on-spec =

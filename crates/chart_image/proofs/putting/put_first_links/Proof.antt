@@ -7,10 +7,10 @@ use lib.Seq.{sets}
 use Rattle.lists.specs.Places.{joined}
 use Rattle.lists.proofs.Places.{joined-none}
 use Rattle.lists.proofs.Runs.{joined-put-row}
-use Rattle.chart.specs.Values.{linkAt}
+use Rattle.chart.specs.Values.{directed, linkAt}
 use Rattle.chart.proofs.Laws.{link-read}
 use Rattle.chart_write.specs.Writing.{linkBody}
-use Rattle.chart_write.proofs.Laws.{length-link-body}
+use Rattle.chart_write.proofs.Laws.{directed-long}
 use Rattle.chart_image.specs.Image.{linksStart, linkSize}
 use borrow.Author.Needs.{needs}
 use Rattle.chart_image.proofs.putting.put_first_links.Statement.{statement}
@@ -18,14 +18,14 @@ use Rattle.chart_image.proofs.putting.put_first_links.Tie as tie
 
 abbrev Inv-loop : tie.InvT-loop
 Inv-loop image₀ n links i₀ image i =
-    (i ≤ n) × (image ≡ sets image₀ linksStart (joined linkBody (linkAt links) i)) × (length image ≡ length image₀)
+    (i ≤ n) × (image ≡ sets image₀ linksStart (joined (linkBody directed) (linkAt links) i)) × (length image ≡ length image₀)
 
 abbrev μ-loop : tie.MeasureT-loop
 μ-loop image₀ n links i₀ image i = n - i
 
 -- the array has its length
 whole : (s : tie.Start Inv-loop μ-loop) → length (s .args .t2 .items) ≡ 48
-whole s = simp length-map at (s .good .1 .0 .1 .1 .1 .0 .1 .0 .1)
+whole s = simp length-map at (s .good .1 .0 .1 .1 .1 .1 .0 .1 .0 .1)
 
 loop-holds : tie.Need-loop-holds Inv-loop μ-loop
 loop-holds c = (omega arith, rw joined-none, refl)
@@ -63,7 +63,7 @@ loop-again c =
     let l = c .before .before .before .before .before .before .before .before .loop in (
       omega arith,
       c .before .before .put-all .ensures ∙ ap (sets (l .image) (linksStart + linkSize * l .i)) (c .before .before .before .before .before .link-body .ensures)
-          ∙ joined-put-row linkBody (linkAt (s .args .t2)) linkSize length-link-body (s .args .image .now) _ linksStart (l .i) (link-read (s .args .t2) _ (l .i) (omega (arith, whole s))) (l .inv .1),
+          ∙ joined-put-row (linkBody directed) (linkAt (s .args .t2)) linkSize directed-long (s .args .image .now) _ linksStart (l .i) (link-read (s .args .t2) _ (l .i) (omega (arith, whole s))) (l .inv .1),
       omega (arith, c .before .before .put-all .kept .0, l .inv .2),
     )
 

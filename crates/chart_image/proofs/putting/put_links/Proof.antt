@@ -4,9 +4,9 @@ use native.Mathlib.Omega.{arith}
 use lib.Seq.{sets}
 use Rattle.lists.proofs.Places.{joined-full}
 use Rattle.lists.proofs.Stores.{joined-zeros}
-use Rattle.chart.specs.Values.{mostLinks, noLink, linkAt}
-use Rattle.chart_write.specs.Writing.{linkBody}
-use Rattle.chart_write.proofs.Laws.{length-link-body}
+use Rattle.chart.specs.Values.{mostLinks, directed, noLink, linkAt}
+use Rattle.chart_write.specs.Writing.{directionBytes, linkBody}
+use Rattle.chart_write.proofs.Laws.{directed-long}
 use Rattle.chart_image.specs.Image.{linksStart, linkSize}
 use borrow.Author.Needs.{needs}
 use Rattle.chart_image.proofs.putting.put_links.Statement.{statement}
@@ -21,7 +21,7 @@ same-length c = search needs
 returns : tie.Need-returns
 returns c =
     let a = c .before .before .before .before .before .before .before .args in
-    c .before .before .put-first-links .ensures ∙ ap (sets (a .image .now) linksStart) (sym (joined-full linkBody noLink (linkAt (a .links)) (a .links .count) mostLinks (omega arith)))
+    c .before .before .put-first-links .ensures ∙ ap (sets (a .image .now) linksStart) (sym (joined-full (linkBody directed) noLink (linkAt (a .links)) (a .links .count) mostLinks (omega arith)))
 
 cast-n : tie.Need-cast-n
 cast-n c = search needs
@@ -48,10 +48,10 @@ same-length-2 : tie.Need-same-length-2
 same-length-2 c = search needs
 
 returns-2 : tie.Need-returns-2
-unfolding linkBody
+unfolding linkBody directionBytes
 returns-2 c =
     let a = c .before .before .before .before .before .before .before .before .before .before .before .before .args in
-    c .before .before .put-zeros .ensures ∙ rw (c .before .before .before .before .before .before .put-first-links2 .ensures) (joined-zeros linkBody linkSize length-link-body noLink refl (a .image .now) linksStart (linkAt (a .links)) (a .links .count) mostLinks (c .before .before .before .before .before .before .before .before .before .if1 .left))
+    c .before .before .put-zeros .ensures ∙ rw (c .before .before .before .before .before .before .put-first-links2 .ensures) (joined-zeros (linkBody directed) linkSize directed-long noLink refl (a .image .now) linksStart (linkAt (a .links)) (a .links .count) mostLinks (c .before .before .before .before .before .before .before .before .before .if1 .left))
 
 pub put-links-spec : {M : Type 1} → statement M
 put-links-spec =

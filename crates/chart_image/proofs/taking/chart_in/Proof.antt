@@ -1,4 +1,4 @@
--- `chart_image::chart_in` meets its contract: the counts, the places that count, and the question.
+-- `chart_image::chart_in` meets its contract: the counts, the form, the places that count, and the question.
 use native.Mathlib.Omega.{arith}
 use Rattle.chart_image.specs.Image.{chartIn}
 use borrow.Author.Needs.{needs}
@@ -29,6 +29,9 @@ cast-links-held c = search needs
 links-held-requires : tie.Need-links-held-requires
 links-held-requires c κs = omega (arith, c .least2 .ensures)
 
+byte-at-requires-3 : tie.Need-byte-at-requires-3
+byte-at-requires-3 c κs = search needs
+
 station-in-requires : tie.Need-station-in-requires
 station-in-requires c κs = search needs
 
@@ -37,7 +40,7 @@ station-in-requires-2 c κs = search needs
 
 returns : tie.Need-returns
 unfolding chartIn
-returns c = rw (c .before .before .before .before .before .nodes-held .ensures, c .before .before .links-held .ensures, c .before .before .before .before .before .before .least .ensures, c .before .before .before .least2 .ensures, c .before .before .before .before .before .before .before .byte-at .ensures, c .before .before .before .before .byte-at2 .ensures, c .before .station-in .ensures, c .station-in2 .ensures)
+returns c = rw (c .before .before .before .before .before .before .nodes-held .ensures, c .before .before .before .links-held .ensures, c .before .before .before .before .before .before .before .least .ensures, c .before .before .before .before .least2 .ensures, c .before .before .before .before .before .before .before .before .byte-at .ensures, c .before .before .before .before .before .byte-at2 .ensures, c .before .before .byte-at3 .ensures, c .before .station-in .ensures, c .station-in2 .ensures)
 
 pub chart-in-spec : {M : Type 1} → statement M
 chart-in-spec =
@@ -51,6 +54,7 @@ chart-in-spec =
     least-requires-2
     cast-links-held
     links-held-requires
+    byte-at-requires-3
     station-in-requires
     station-in-requires-2
     returns)

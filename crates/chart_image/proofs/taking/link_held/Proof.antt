@@ -1,4 +1,4 @@
--- `chart_image::link_held` meets its contract: the on byte decides, else two addresses and it.
+-- `chart_image::link_held` meets its contract: the on byte decides, else two addresses, it and the direction.
 use borrow.Author.Tests.{lt-ltb, le-ltb}
 use mathlib.Core.Path.{_∙_}
 use Rattle.chart_image.specs.Image.{linkHeld}
@@ -34,9 +34,15 @@ add-address-in c = search needs
 address-in-requires-2 : tie.Need-address-in-requires-2
 address-in-requires-2 c κs = search needs
 
+add-byte-at-2 : tie.Need-add-byte-at-2
+add-byte-at-2 c = search needs
+
+byte-at-requires-2 : tie.Need-byte-at-requires-2
+byte-at-requires-2 c κs = search needs
+
 returns-2 : tie.Need-returns-2
 unfolding linkHeld
-returns-2 c = rw (le-ltb 1 _ (rw (c .before .before .before .byte-at .ensures) at (c .before .before .if1 .left)), c .before .before .before .byte-at .ensures, c .before .address-in .ensures, c .address-in2 .ensures)
+returns-2 c = rw (le-ltb 1 _ (rw (c .before .before .before .before .byte-at .ensures) at (c .before .before .before .if1 .left)), c .before .before .before .before .byte-at .ensures, c .before .before .address-in .ensures, c .before .address-in2 .ensures, c .byte-at2 .ensures)
 
 pub link-held-spec : {M : Type 1} → statement M
 link-held-spec =
@@ -51,4 +57,6 @@ link-held-spec =
     address-in-requires
     add-address-in
     address-in-requires-2
+    add-byte-at-2
+    byte-at-requires-2
     returns-2)

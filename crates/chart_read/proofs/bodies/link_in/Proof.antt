@@ -1,4 +1,4 @@
--- `chart_read::bodies::link_in` meets its contract: two addresses and a byte.
+-- `chart_read::bodies::link_in` meets its contract: two addresses and two bytes, the second of which may be past the end.
 use mathlib.Core.Path.{sym}
 use native.Mathlib.Omega.{arith}
 use lib.Seq.{length-take-le}
@@ -20,11 +20,14 @@ address-in-requires-2 c κs = search needs
 shared-slice-read-on : tie.Need-shared-slice-read-on
 shared-slice-read-on c = search needs
 
+byte-at-requires : tie.Need-byte-at-requires
+byte-at-requires c κs = search needs
+
 returns : tie.Need-returns
 unfolding linkIn
 returns c =
-    let b = c .before .before .before .before .before .args .b .now in
-    rw (c .before .before .address-in .ensures, address-within 8 b 0 (omega arith), c .before .address-in2 .ensures, address-within 8 b 4 (omega arith))
+    let b = c .before .before .before .before .before .before .args .b .now in
+    rw (c .before .before .before .address-in .ensures, address-within 8 b 0 (omega arith), c .before .before .address-in2 .ensures, address-within 8 b 4 (omega arith), c .byte-at .ensures)
 
 pub link-in-spec : {M : Type 1} → statement M
 link-in-spec =
@@ -34,4 +37,5 @@ link-in-spec =
     address-in-requires
     address-in-requires-2
     shared-slice-read-on
+    byte-at-requires
     returns)

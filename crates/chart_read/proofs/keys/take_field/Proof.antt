@@ -9,7 +9,7 @@ use borrow.Author.Needs.{needs}
 use Rattle.chart_read.specs.Fields.{tagAt, pastField}
 use Rattle.chart_read.specs.Reading.{bodyRefusal}
 use Rattle.chart_read.specs.Contracts.{Keys, asKeys, Takes, TakesField}
-use Rattle.chart_read.proofs.Laws.{field-cut, field-whole, tag-later}
+use Rattle.chart_read.proofs.Laws.{form-tag, no-form, field-cut, field-whole, tag-later}
 use Rattle.chart_read.proofs.Taking.{field-takes, field-refused}
 use Rattle.chart_read.proofs.keys.take_field.Statement.{statement}
 use Rattle.chart_read.proofs.keys.take_field.Tie as tie
@@ -44,14 +44,14 @@ returns-2 c = field-refused _ _ _ 20 (field-cut _ _ _ (omega (arith, c .before .
 body-at-requires : tie.Need-body-at-requires
 body-at-requires c κs = search needs
 
-shared-slice-read-match : tie.Need-shared-slice-read-match
-shared-slice-read-match c = search needs
+shared-slice-read-tag : tie.Need-shared-slice-read-tag
+shared-slice-read-tag c = search needs
 
 take-node-requires : tie.Need-take-node-requires
 take-node-requires c κs = search needs
 
 take-link-requires : tie.Need-take-link-requires
-take-link-requires c κs = search needs
+take-link-requires c κs = form-tag _ (c .before .before .before .match .keys2)
 
 take-question-requires : tie.Need-take-question-requires
 take-question-requires c κs = search needs
@@ -60,7 +60,7 @@ returns-3 : tie.Need-returns-3
 returns-3 c = by-tag (c .before .before .before .before) 1 (c .before .before .match .keys1) _ _ (c .take-node .ensures _ _)
 
 returns-4 : tie.Need-returns-4
-returns-4 c = by-tag (c .before .before .before .before .before .before) 2 (c .before .before .before .before .match .keys2) _ _ (c .take-link .ensures)
+returns-4 c = by-tag (c .before .before .before .before .before .before) _ refl _ _ (c .take-link .ensures)
 
 returns-5 : tie.Need-returns-5
 returns-5 c = by-tag (c .before .before .before .before) 3 (c .before .before .match .keys3) _ _ (c .take-question .ensures _ _)
@@ -71,7 +71,7 @@ returns-6 c =
     let r = c .match .rest in
     let a = c .before .before in
     field-refused _ _ _ 21
-    (field-whole _ _ _ 22 (whole a) (tag-later _ (ne-eqb _ _ (r .0 .0 .1)) (tag-later _ (ne-eqb _ _ (r .0 .1)) (tag-later _ (ne-eqb _ _ (r .1)) refl))))
+    (field-whole _ _ _ 22 (whole a) (tag-later _ (ne-eqb _ _ (r .0 .0 .1)) (tag-later _ (no-form _ (r .0 .1)) (tag-later _ (ne-eqb _ _ (r .1)) refl))))
 
 pub take-field-spec : {M : Type 1} → statement M
 take-field-spec =
@@ -81,7 +81,7 @@ take-field-spec =
     past-field-requires
     returns-2
     body-at-requires
-    shared-slice-read-match
+    shared-slice-read-tag
     take-node-requires
     take-link-requires
     take-question-requires

@@ -21,7 +21,7 @@ abbrev μ-loop : tie.MeasureT-loop
 
 -- the array of links has 48 places
 whole : (s : tie.Start Inv-loop μ-loop) → length (s .args .t1 .items) ≡ 48
-whole s = simp length-map at (s .good .0 .1 .1 .1 .0 .1 .0 .1)
+whole s = simp length-map at (s .good .0 .1 .1 .1 .1 .0 .1 .0 .1)
 
 cast-n : tie.Need-cast-n Inv-loop μ-loop
 cast-n c = search needs

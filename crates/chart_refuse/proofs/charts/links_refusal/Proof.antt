@@ -19,7 +19,7 @@ abbrev μ-loop : tie.MeasureT-loop
 
 -- the array has 48 places
 whole : (s : tie.Start Inv-loop μ-loop) → length (s .args .t3 .items) ≡ 48
-whole s = simp length-map at (s .good .1 .1 .0 .1 .1 .1 .0 .1 .0 .1)
+whole s = simp length-map at (s .good .1 .1 .0 .1 .1 .1 .1 .0 .1 .0 .1)
 
 cast-m : tie.Need-cast-m Inv-loop μ-loop
 cast-m c = search needs

@@ -1,5 +1,5 @@
--- `chart_write::bytes::link_body` meets its contract: two addresses and the on byte.
-use Rattle.chart_write.specs.Writing.{linkBody}
+-- `chart_write::bytes::link_body` meets its contract: two addresses, the on byte and the direction.
+use Rattle.chart_write.specs.Writing.{directionBytes, linkBody}
 use borrow.Author.Needs.{needs}
 use Rattle.chart_write.proofs.bytes.link_body.Statement.{statement}
 use Rattle.chart_write.proofs.bytes.link_body.Tie as tie
@@ -38,7 +38,7 @@ array-read-t29 : tie.Need-array-read-t29
 array-read-t29 c = search needs
 
 returns : tie.Need-returns
-unfolding linkBody
+unfolding linkBody directionBytes
 returns c = rw (c .before .before .address-bytes .ensures, c .before .address-bytes2 .ensures, c .on-byte .ensures)
 
 pub link-body-spec : {M : Type 1} → statement M

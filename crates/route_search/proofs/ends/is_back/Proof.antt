@@ -1,0 +1,12 @@
+-- `route_search::ends::is_back` meets its contract: its tests are the definition's.
+use mathlib.Core.Path.{refl}
+use Rattle.route_search.specs.Contracts.{isBack}
+use Rattle.route_search.proofs.ends.is_back.Statement.{statement}
+use Rattle.route_search.proofs.ends.is_back.Tie as tie
+
+returns : tie.Need-returns
+unfolding isBack
+returns c = refl
+
+pub is-back-spec : {M : Type 1} → statement M
+is-back-spec = tie.close (tie.spec returns)
