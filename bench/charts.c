@@ -1,13 +1,13 @@
 /* One call of the door on a chart, made over and over: charts CALL FILE TIMES.
-   CALL is none, read, write, renew, first, or short (first with a buffer of 14 bytes: all that comes before the search). The chart is read and
-   written once before that. A sum over its image and one over the bytes written are printed, as the ordinary program prints them. */
+   CALL is none, read, write, renew, sheet, first, or short (first with a buffer of 14 bytes: all that comes before the search). The chart is read
+   and written once before that. A sum over its image and one over the bytes written are printed, as the ordinary program prints them. */
 #include <stdio.h>
 #include <stdlib.h>
 #include <string.h>
 
 #include "poztecameh.h"
 
-static uint8_t chart[4096], image[PZ_CHART_IMAGE_SIZE], bytes[4096], route[PZ_ROUTE_SIZE];
+static uint8_t chart[4096], image[PZ_CHART_IMAGE_SIZE], bytes[4096], route[PZ_ROUTE_SIZE], text[PZ_SHEET_SIZE];
 
 static uint64_t sum_of(const uint8_t *bytes, size_t n)
 {
@@ -25,6 +25,7 @@ int main(int count, char **words)
     size_t n = fread(chart, 1, sizeof chart, file);
     const char *call = words[1];
     uint16_t place, written;
+    uint32_t size;
     if (pz_chart_read(chart, n, image, sizeof image, &place) != 0 ||
         pz_chart_write(image, sizeof image, bytes, sizeof bytes, &written) != 0)
         return 1;
@@ -36,6 +37,8 @@ int main(int count, char **words)
             last = pz_chart_write(image, sizeof image, bytes, sizeof bytes, &written);
         else if (strcmp(call, "renew") == 0)
             last = pz_chart_renew(chart, n, bytes, sizeof bytes, &written, &place);
+        else if (strcmp(call, "sheet") == 0)
+            last = pz_sheet(chart, n, text, sizeof text, &size);
         else if (strcmp(call, "first") == 0)
             last = pz_first(chart, n, route, sizeof route, 0) > PZ_ROUTE_SIZE;
         else if (strcmp(call, "short") == 0)

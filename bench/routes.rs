@@ -1,10 +1,20 @@
 //! All routes of a chart, listed over and over: routes WHO CHART TIMES.
-//! WHO is ours (pz_first, then pz_next until 43), walk (an ordinary exhaustive walk over adjacency lists), none, or bytes, which writes the chart.
-//! CHART is s, complete6, complete7, complete8, comb, or drawn1 to drawn20. The number of routes and a sum over their links are printed, the same for both.
+//! WHO is ours (pz_first, then pz_next until 43), list (pz_routes, which lists all routes of these charts), walk (an ordinary exhaustive walk over
+//! adjacency lists), store (the same walk, each route stored before it is counted), none, or bytes, which writes the chart.
+//! CHART is s, complete6, complete7, complete8, comb, or drawn1 to drawn20. The number of routes and a sum over their links are printed, the same for all.
 
 extern "C" {
     fn pz_first(chart: *const u8, n: usize, route: *mut u8, m: usize, length: usize) -> u8;
     fn pz_next(chart: *const u8, n: usize, route: *mut u8, m: usize, length: usize) -> u8;
+    fn pz_routes(
+        chart: *const u8,
+        n: usize,
+        slots: *mut u8,
+        m: usize,
+        count: *mut u16,
+        more: *mut u8,
+        place: *mut u16,
+    ) -> u8;
 }
 
 /// What a listing found: how many routes, and a sum in which each link of each route counts.
@@ -39,9 +49,31 @@ fn ours(chart: &[u8]) -> Tally {
     tally
 }
 
+/// The lister's way: all routes in one call, each in a slot of 16 bytes.
+fn list(chart: &[u8], slots: &mut [u8]) -> Tally {
+    let (mut count, mut more, mut place) = (0, 0, 0);
+    let refusal = unsafe {
+        pz_routes(
+            chart.as_ptr(),
+            chart.len(),
+            slots.as_mut_ptr(),
+            slots.len(),
+            &mut count,
+            &mut more,
+            &mut place,
+        )
+    };
+    assert!((refusal == 0 || refusal == 43) && more == 0);
+    let mut tally = Tally::default();
+    for slot in slots.chunks_exact(16).take(usize::from(count)) {
+        tally.add(&slot[1..1 + usize::from(slot[0])]);
+    }
+    tally
+}
+
 /// An ordinary program's way: the chart's fields once, then one walk. It takes the chart to be right: no range, no
 /// duplicate and no used end is tested.
-fn walk(chart: &[u8]) -> Tally {
+fn walk(chart: &[u8], store: bool) -> Tally {
     let mut stations: Vec<(u8, u16)> = Vec::new();
     let mut ways: Vec<Vec<(u8, usize)>> = Vec::new();
     let (mut links, mut from, mut to) = (0u8, 0, 0);
@@ -78,10 +110,15 @@ fn walk(chart: &[u8]) -> Tally {
         to,
         met: vec![false; stations.len()],
         path: Vec::new(),
+        store,
+        stored: Vec::new(),
         tally: Tally::default(),
     };
     search.met[from] = true;
     search.go(from);
+    for route in &search.stored {
+        search.tally.add(route);
+    }
     search.tally
 }
 
@@ -90,13 +127,19 @@ struct Search<'a> {
     to: usize,
     met: Vec<bool>,
     path: Vec<u8>,
+    store: bool,
+    stored: Vec<Vec<u8>>,
     tally: Tally,
 }
 
 impl Search<'_> {
     fn go(&mut self, at: usize) {
         if at == self.to {
-            self.tally.add(&self.path);
+            if self.store {
+                self.stored.push(self.path.clone());
+            } else {
+                self.tally.add(&self.path);
+            }
             return;
         }
         for &(link, far) in &self.ways[at] {
@@ -183,15 +226,18 @@ fn main() {
         return;
     }
     // A pointer that is known only when the program runs: no call can be left out.
-    let list: fn(&[u8]) -> Tally = match words[1].as_str() {
-        "ours" => ours,
-        "walk" => walk,
-        "none" => |_: &[u8]| Tally::default(),
+    let who: fn(&[u8], &mut [u8]) -> Tally = match words[1].as_str() {
+        "ours" => |chart, _| ours(chart),
+        "list" => list,
+        "walk" => |chart, _| walk(chart, false),
+        "store" => |chart, _| walk(chart, true),
+        "none" => |_, _| Tally::default(),
         other => panic!("nobody {other}"),
     };
+    let mut slots = vec![0; 65_520];
     let mut tally = Tally::default();
     for _ in 0..words[3].parse().unwrap() {
-        tally = list(&chart);
+        tally = who(&chart, &mut slots);
     }
     println!("{} routes, sum {}", tally.routes, tally.sum);
 }

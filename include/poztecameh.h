@@ -19,10 +19,11 @@
  * file. Any call may be made on any thread at any time, as long as nobody else writes what it
  * reads, or touches what it writes.
  *
- * Stack. Measured, not proved: pz_sheet needs 22,016 bytes, pz_first and pz_next up to 20,128, the
- * calls on a ledger up to 9,608, all others less than 5,000. tests/stack.c makes each call on a
- * painted stack, over the largest inputs and the deepest searches, and fails where one needs
- * 24,000. Give a thread 65,536 (PZ_STACK_SIZE): twice that, with room for the caller's own.
+ * Stack. Measured, not proved: pz_sheet needs 22,440 bytes, the calls on a ledger up to 9,608,
+ * pz_next up to 5,904, pz_routes 4,712, pz_first 4,360, all others less than 4,200. tests/stack.c
+ * makes each call on a painted stack, over the largest inputs and the deepest searches, and fails
+ * where one needs 24,000. Give a thread 65,536 (PZ_STACK_SIZE): twice that, with room for the
+ * caller's own.
  *
  * Refusals of an envelope, the lowest that applies:
  *    1  the frame ends before its fixed fields, or before the size that its own two counts ask for
@@ -51,7 +52,7 @@
  *   32  (to the plain form) a link does not go both ways; after all numbers of the chart
  *
  * Refusals of a route, after those of the chart, in this order:
- *   42  the buffer is shorter than 15
+ *   42  there is no room: a route needs 15 bytes, a slot 16
  *   41  what was given is no route
  *   43  there is no route, or none later
  *
@@ -171,6 +172,20 @@ uint8_t pz_first(const uint8_t *chart, size_t n, uint8_t *route, size_t m, size_
 /* Writes the least route after the one of this length that stands at route, and returns its length. Bytes past it
  * stay. 21 to 31 of the chart, 42, 41, 43. */
 uint8_t pz_next(const uint8_t *chart, size_t n, uint8_t *route, size_t m, size_t length);
+
+/* A route in a list of them, its slot: length 1, then 15 links, those past the length zero. */
+#define PZ_SLOT_SIZE 16
+
+/* One call lists no more routes than these. */
+#define PZ_MOST_SLOTS 4095
+
+/* Lists the routes of a chart's question in order, all in one walk, each in a slot of 16 bytes, as many as m bytes at
+ * slots have room for and 4,095 at most; *count is how many, *more is 1 if others follow, else 0. Bytes past the last
+ * slot stay. Others are had from pz_next, after the route in the last slot. 21 to 31 of the chart, *place being where
+ * the refused field begins (31: the chart's size), then 42 if there is no room for a slot, then 43; *place is 0 beside
+ * any other number. */
+uint8_t pz_routes(const uint8_t *chart, size_t n, uint8_t *slots, size_t m, uint16_t *count, uint8_t *more,
+                  uint16_t *place);
 
 /* No printed sheet is longer. */
 #define PZ_SHEET_SIZE 47369

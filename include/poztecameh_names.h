@@ -14,8 +14,8 @@
 /* The version of the two headers and of the library beside them. The first number changes with a
  * call, a refusal or an image that is there, the second where something is added. */
 #define PZ_VERSION_MAJOR 4
-#define PZ_VERSION_MINOR 0
-#define PZ_VERSION "4.0"
+#define PZ_VERSION_MINOR 1
+#define PZ_VERSION "4.1"
 
 /* A thread's stack that is enough for any call: more than twice what any needs (poztecameh.h,
  * "Stack"). */
@@ -98,7 +98,7 @@ static inline const char *pz_refusal_text(unsigned number)
     case PZ_BAD_CHART_UNASKED: return "the chart ends without a question";
     case PZ_BAD_CHART_ONE_WAY: return "a link does not go both ways, as every plain one does";
     case PZ_BAD_ROUTE: return "what was given is no route";
-    case PZ_NO_ROUTE_ROOM: return "the route's buffer is shorter than 15 bytes";
+    case PZ_NO_ROUTE_ROOM: return "there is no room: a route needs 15 bytes, a slot 16";
     case PZ_NO_ROUTE: return "there is no route, or none later";
     case PZ_BAD_TABLE: return "the table has a value out of its range, or its image can't be read";
     case PZ_BAD_DESTINATION: return "the destination or the arrival port is out of its range";
@@ -291,6 +291,13 @@ static inline const char *pz_direction_text(unsigned direction)
     default: return "no direction has this number";
     }
 }
+
+/* ---- The slots that routes are listed in */
+
+#define PZ_SLOT_LENGTH 0
+#define PZ_SLOT_LINKS 1
+
+#define PZ_SLOT_AT(place) (PZ_SLOT_SIZE * (size_t)(place))
 
 /* ---- The fields of a chart's bytes (docs/CHART.md) */
 

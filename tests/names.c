@@ -27,6 +27,7 @@ _Static_assert(PZ_LEG_AT(PZ_MOST_LEGS) == PZ_LEDGER_SIZE, "a ledger's size");
 _Static_assert(PZ_NODE_AT(PZ_MOST_NODES) == PZ_CHART_LINKS, "the nodes' size");
 _Static_assert(PZ_LINK_AT(PZ_MOST_LINKS) == PZ_CHART_IMAGE_SIZE, "a chart image's size");
 _Static_assert(PZ_NODE_LABEL + PZ_MOST_LABEL == PZ_NODE_SIZE, "a node's size");
+_Static_assert(PZ_SLOT_LINKS + PZ_ROUTE_SIZE == PZ_SLOT_SIZE, "a slot's size");
 _Static_assert(PZ_FORM_PLAIN == PZ_TAG_LINK, "the plain form's tag");
 _Static_assert(PZ_FORM_DIRECTED == PZ_TAG_DIRECTED_LINK, "the directed form's tag");
 _Static_assert(PZ_STATION_SIZE == PZ_ADDRESS_PORT, "a station's size");
@@ -493,6 +494,66 @@ static void test_routes(void)
     CHECK(!pz_is_route(PZ_NO_ROUTE) && pz_is_route(PZ_ROUTE_SIZE));
 }
 
+/* The routes of S in slots, each as pz_first and pz_next give it; and from the last slot on. */
+static void test_slots(void)
+{
+    uint8_t chart[PZ_LONGEST_INPUT + 1], slots[PZ_SLOT_AT(3)], route[PZ_ROUTE_SIZE], more;
+    uint16_t count, place;
+    size_t n = read_sample("s", chart);
+    CHECK(pz_routes(chart, n, slots, sizeof slots, &count, &more, &place) == PZ_DONE);
+    CHECK(count == 3 && more == 1 && place == 0);
+    uint8_t length = pz_first(chart, n, route, sizeof route, 0);
+    for (unsigned i = 0; i < count; i++) {
+        const uint8_t *slot = slots + PZ_SLOT_AT(i);
+        CHECK(slot[PZ_SLOT_LENGTH] == length);
+        CHECK(memcmp(slot + PZ_SLOT_LINKS, route, length) == 0);
+        length = pz_next(chart, n, route, sizeof route, length);
+    }
+    uint8_t *last = slots + PZ_SLOT_AT(2);
+    CHECK(pz_next(chart, n, last + PZ_SLOT_LINKS, PZ_ROUTE_SIZE, last[PZ_SLOT_LENGTH]) == length);
+    CHECK(memcmp(last + PZ_SLOT_LINKS, route, length) == 0);
+    CHECK(pz_routes(chart, n, slots, PZ_SLOT_SIZE - 1, &count, &more, &place) ==
+          PZ_NO_ROUTE_ROOM);
+    CHECK(count == 0 && more == 0 && place == 0);
+    n = read_sample("apart", chart);
+    CHECK(pz_routes(chart, n, slots, sizeof slots, &count, &more, &place) == PZ_NO_ROUTE);
+    n = read_sample("loop", chart);
+    CHECK(pz_routes(chart, n, slots, sizeof slots, &count, &more, &place) == PZ_BAD_CHART_LOOP);
+    CHECK(count == 0 && more == 0 && place == 91);
+}
+
+/* A row of 13 nodes with two links from each to the next: 4,096 routes. */
+static size_t lay_row(uint8_t *chart)
+{
+    uint8_t image[PZ_CHART_IMAGE_SIZE] = {0};
+    uint16_t written;
+    image[PZ_CHART_NODE_COUNT] = 13;
+    image[PZ_CHART_LINK_COUNT] = 24;
+    image[PZ_CHART_FORM] = PZ_FORM_PLAIN;
+    pz_put_station(image + PZ_CHART_FROM, 9, 0);
+    pz_put_station(image + PZ_CHART_TO, 9, 12);
+    for (uint8_t node = 0; node < 13; node++)
+        pz_put_station(image + PZ_NODE_AT(node), 9, node);
+    for (uint8_t place = 0; place < 24; place++) {
+        uint8_t *link = image + PZ_LINK_AT(place), node = place / 2;
+        pz_put_address(link + PZ_LINK_END, 9, node, 1 + place % 2);
+        pz_put_address(link + PZ_LINK_OTHER_END, 9, node + 1, 3 + place % 2);
+        link[PZ_LINK_ON] = 1;
+    }
+    CHECK(pz_chart_write(image, sizeof image, chart, PZ_CHART_SIZE, &written) == PZ_DONE);
+    return written;
+}
+
+static void test_most_slots(void)
+{
+    static uint8_t slots[PZ_SLOT_AT(PZ_MOST_SLOTS + 1)];
+    uint8_t chart[PZ_CHART_SIZE], more;
+    uint16_t count, place;
+    size_t n = lay_row(chart);
+    CHECK(pz_routes(chart, n, slots, sizeof slots, &count, &more, &place) == PZ_DONE);
+    CHECK(count == PZ_MOST_SLOTS && more == 1);
+}
+
 static void test_sheets(void)
 {
     static const char too_long[] = "too long\n";
@@ -576,6 +637,8 @@ int main(void)
     test_fields("renewed", PZ_TAG_DIRECTED_LINK);
     test_chart_refusals();
     test_routes();
+    test_slots();
+    test_most_slots();
     test_sheets();
     test_words();
     test_direction_words();

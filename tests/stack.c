@@ -2,8 +2,8 @@
  * no longer paint afterwards was used. A thread that calls nothing is taken off. Exit status 1
  * where a call needs more than the header says.
  *
- * The inputs are the largest of their kind. A search is deepest where every link of the chart is
- * tried and fails: each link is then held once, by the node that it was tried from. */
+ * The inputs are the largest of their kind. A search is deepest where it goes through all nodes of
+ * the chart, and there finds a route or none. */
 #define _POSIX_C_SOURCE 200809L
 #include <pthread.h>
 #include <stdio.h>
@@ -20,8 +20,8 @@ enum { STATED = 24000, MARGIN = 2 };
 static uint8_t frame[PZ_FRAME_SIZE], envelope[PZ_ENVELOPE_SIZE], contents[PZ_MOST_CONTENTS];
 static uint8_t table[PZ_TABLE_SIZE], ledger[PZ_LEDGER_SIZE];
 static uint8_t chart[PZ_CHART_SIZE], moved[PZ_CHART_SIZE], chart_image[PZ_CHART_IMAGE_SIZE],
-    route[PZ_ROUTE_SIZE], text[PZ_SHEET_SIZE];
-static uint16_t chart_size, moved_size, word;
+    route[PZ_ROUTE_SIZE], slots[PZ_SLOT_AT(PZ_MOST_SLOTS)], text[PZ_SHEET_SIZE];
+static uint16_t chart_size, moved_size, word, count;
 static uint32_t sheet_size;
 static uint8_t byte, other, answer;
 
@@ -70,7 +70,7 @@ static void fill_ledger(uint8_t count)
 }
 
 /* ---- The charts whose searches are deepest: a row of nodes, and its last two joined by all the
- * links that are left */
+ * links that are left. The question is from the first node to the last place. */
 
 static void add_link(uint8_t from, uint8_t to)
 {
@@ -99,31 +99,49 @@ static void begin_chart(void)
     pz_put_station(chart_image + PZ_CHART_TO, 9, PZ_MOST_NODES - 1);
 }
 
-static void end_chart(void)
+static void write_chart(void)
 {
-    while (chart_image[PZ_CHART_LINK_COUNT] < PZ_MOST_LINKS)
-        add_link(PZ_MOST_NODES - 3, PZ_MOST_NODES - 2);
     answer = pz_chart_write(chart_image, sizeof chart_image, chart, sizeof chart, &chart_size);
     want(PZ_DONE);
 }
 
-/* The last node has no link: there is no route. */
-static void draw_no_route(void)
+/* A row of so many nodes. */
+static void draw_row(uint8_t nodes)
 {
     begin_chart();
-    for (uint8_t place = 0; place < PZ_MOST_NODES - 3; place++)
+    for (uint8_t place = 0; place < nodes - 1; place++)
         add_link(place, (uint8_t)(place + 1));
-    end_chart();
+    while (chart_image[PZ_CHART_LINK_COUNT] < PZ_MOST_LINKS)
+        add_link((uint8_t)(nodes - 2), (uint8_t)(nodes - 1));
+    write_chart();
 }
 
-/* One route along the row, and none after it. */
+/* The last node has no link. */
+static void draw_no_route(void) { draw_row(PZ_MOST_NODES - 1); }
+
+/* Routes along the whole row, the longest that there are. */
+static void draw_long_routes(void) { draw_row(PZ_MOST_NODES); }
+
+/* One route that leaves the row before its end, and none after it. */
 static void draw_one_route(void)
 {
     begin_chart();
     for (uint8_t place = 0; place < PZ_MOST_NODES - 3; place++)
         add_link(place, (uint8_t)(place + 1));
     add_link(PZ_MOST_NODES - 3, PZ_MOST_NODES - 1);
-    end_chart();
+    while (chart_image[PZ_CHART_LINK_COUNT] < PZ_MOST_LINKS)
+        add_link(PZ_MOST_NODES - 3, PZ_MOST_NODES - 2);
+    write_chart();
+}
+
+/* One link to the last node, and then the row, whose routes come after it. */
+static void draw_short_and_long(void)
+{
+    begin_chart();
+    add_link(0, PZ_MOST_NODES - 1);
+    for (uint8_t place = 0; place < PZ_MOST_NODES - 1; place++)
+        add_link(place, (uint8_t)(place + 1));
+    write_chart();
 }
 
 /* ---- The calls, each made ready by a function of its own */
@@ -186,15 +204,33 @@ static void call_restore(void)
 
 static void call_first(void) { answer = pz_first(chart, chart_size, route, sizeof route, 0); }
 
-static void before_next(void)
+/* pz_next, after the first route. */
+static void first_of_one(void)
 {
     draw_one_route();
     call_first();
     want(PZ_MOST_NODES - 2);
 }
+static void first_of_long(void)
+{
+    draw_long_routes();
+    call_first();
+    want(PZ_MOST_NODES - 1);
+}
+static void first_of_short(void)
+{
+    draw_short_and_long();
+    call_first();
+    want(1);
+}
 static void call_next(void)
 {
-    answer = pz_next(chart, chart_size, route, sizeof route, PZ_MOST_NODES - 2);
+    answer = pz_next(chart, chart_size, route, sizeof route, answer);
+}
+
+static void call_routes(void)
+{
+    answer = pz_routes(chart, chart_size, slots, sizeof slots, &count, &byte, &word);
 }
 
 static void call_sheet(void)
@@ -218,10 +254,15 @@ static const struct {
     {"pz_chart_read", nothing, call_chart_read, PZ_DONE},
     {"pz_chart_renew", nothing, call_renew, PZ_DONE},
     {"pz_chart_restore", nothing, call_restore, PZ_DONE},
-    {"pz_first", draw_no_route, call_first, PZ_NO_ROUTE},
-    {"pz_next", before_next, call_next, PZ_NO_ROUTE},
+    {"pz_first, no route", draw_no_route, call_first, PZ_NO_ROUTE},
+    {"pz_first, a long one", draw_long_routes, call_first, PZ_ROUTE_SIZE},
+    {"pz_next, none after one", first_of_one, call_next, PZ_NO_ROUTE},
+    {"pz_next, a long one after another", first_of_long, call_next, PZ_ROUTE_SIZE},
+    {"pz_next, a long one after a short one", first_of_short, call_next, PZ_ROUTE_SIZE},
+    {"pz_routes, no route", draw_no_route, call_routes, PZ_NO_ROUTE},
+    {"pz_routes, long ones", draw_long_routes, call_routes, PZ_DONE},
     {"pz_sheet, no route", draw_no_route, call_sheet, PZ_DONE},
-    {"pz_sheet, one route", draw_one_route, call_sheet, PZ_DONE},
+    {"pz_sheet, long routes", draw_long_routes, call_sheet, PZ_DONE},
 };
 
 /* ---- The painted stack */

@@ -81,6 +81,15 @@ extern "C" {
     ) -> u8;
     fn pz_first(chart: *const u8, n: usize, route: *mut u8, m: usize, length: usize) -> u8;
     fn pz_next(chart: *const u8, n: usize, route: *mut u8, m: usize, length: usize) -> u8;
+    fn pz_routes(
+        chart: *const u8,
+        n: usize,
+        slots: *mut u8,
+        m: usize,
+        count: *mut u16,
+        more: *mut u8,
+        place: *mut u16,
+    ) -> u8;
     fn pz_sheet(chart: *const u8, n: usize, text: *mut u8, m: usize, written: *mut u32) -> u8;
 }
 
@@ -480,6 +489,27 @@ pub fn next(chart: &[u8], route: &[u8], length: usize) -> Answer {
     let mut route = Lent::holding("route", route);
     let number = unsafe { pz_next(chart.start(), chart.size, route.start(), route.size, length) };
     Answer { number, lent: route, handed_in: vec![chart], beside: vec![] }
+}
+
+/// Calls pz_routes and lends it slots of so many bytes.
+pub fn routes(chart: &[u8], room: usize) -> Answer {
+    let mut chart = Lent::holding("chart", chart);
+    let mut slots = Lent::blank("slots", room);
+    let mut count = Beside::new("count", u16::BITS);
+    let mut more = Beside::new("more", u8::BITS);
+    let mut place = Beside::new("place", u16::BITS);
+    let number = unsafe {
+        pz_routes(
+            chart.start(),
+            chart.size,
+            slots.start(),
+            slots.size,
+            count.start(),
+            more.start(),
+            place.start(),
+        )
+    };
+    Answer { number, lent: slots, handed_in: vec![chart], beside: vec![count, more, place] }
 }
 
 /// Calls pz_sheet and lends it a text buffer of this size.

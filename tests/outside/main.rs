@@ -30,6 +30,7 @@ mod trace;
 mod trace_call;
 mod trace_cases;
 mod trace_draws;
+mod trace_lists;
 mod wire;
 
 use group::Tests;
@@ -66,6 +67,7 @@ fn main() {
         chart_samples::GROUPS,
         trace_cases::GROUPS,
         trace_draws::GROUPS,
+        trace_lists::GROUPS,
         sheet_cases::GROUPS,
     ];
     let (checks, failed) = run_all(&groups.concat(), seed);

@@ -1,6 +1,7 @@
 //! Printed sheets beside the second one: document 01's own, the sample charts, both sides of every
 //! limit, and drawn charts, sound and damaged, in buffers of any size.
 
+use crate::chart::MOST_LINKS;
 use crate::chart_cases::{largest, ONE_WAY, S};
 use crate::chart_draft::Draft;
 use crate::chart_draws::damage;
@@ -14,6 +15,7 @@ use crate::trace_draws::{draw_net, thin};
 pub const GROUPS: &[Tests] = &[
     ("sheet of S", document),
     ("sheet limits", limits),
+    ("sheet counts", counts),
     ("sheet rooms", rooms),
     ("sheet draws", draws),
 ];
@@ -122,6 +124,22 @@ fn limits(group: &mut Group, _: &mut Draw) -> Outcome {
         format!("no route: {text}")
     })?;
     known(group, "no route", &chart, &text, text.len())?;
+    Ok(())
+}
+
+// Every number of links between two nodes, each of them a route.
+fn counts(group: &mut Group, _: &mut Draw) -> Outcome {
+    for count in 0..=MOST_LINKS {
+        let mut draft = Draft::row(2);
+        (0..count).for_each(|_| draft.join(0, 1));
+        let chart = draft.lay();
+        let text = print(&chart, MANY).expect("a chart of few routes");
+        // The counts, two nodes, the links, the question, the routes and the last line.
+        group.check(text.lines().count() == 5 + 2 * count, || format!("{count} routes: {text}"))?;
+        for room in [text.len() - 1, text.len(), LONGEST] {
+            known(group, "counts", &chart, &text, room)?;
+        }
+    }
     Ok(())
 }
 

@@ -1,11 +1,17 @@
 //! A second list of a chart's routes, from documents 01 and 02. Each way of walking on is put on a
 //! pile until none is left; those that came to the end are sorted, and what is next is looked up.
 
-use crate::chart::{self, Field, StationBytes, QUESTION};
+use crate::chart::{self, Field, Refusal, StationBytes, QUESTION};
 use crate::door::{Expected, Given};
 use std::collections::BTreeMap;
 
 pub const MOST_STEPS: usize = 15;
+
+/// A slot has a byte for the route's length, and one for each link of the longest.
+pub const SLOT_SIZE: usize = 1 + MOST_STEPS;
+
+/// Routes that one call lists.
+pub const MOST_SLOTS: usize = 4095;
 
 /// Link places, from the first link on.
 pub type Route = Vec<u8>;
@@ -17,14 +23,14 @@ struct Part {
 }
 
 /// All routes of a chart in order, or the chart's refusal.
-pub struct Routes(Result<Vec<Route>, u8>);
+pub struct Routes(Result<Vec<Route>, Refusal>);
 
 impl Routes {
     /// Lists the routes of a chart, unless there are more beginnings of routes than this.
     pub fn of(chart: &[u8], most: usize) -> Option<Routes> {
         match chart::read(chart) {
             Ok(fields) => walk(&fields, most).map(|routes| Routes(Ok(routes))),
-            Err((number, _)) => Some(Routes(Err(number))),
+            Err(refusal) => Some(Routes(Err(refusal))),
         }
     }
 
@@ -35,7 +41,7 @@ impl Routes {
 
     // Gives the list for a call that is lent a buffer of this size, or the refusal.
     fn lent(&self, room: usize) -> Result<&[Route], u8> {
-        let routes = self.0.as_ref().map_err(|number| *number)?;
+        let routes = self.0.as_ref().map_err(|(number, _)| *number)?;
         if room < MOST_STEPS {
             return Err(42);
         }
@@ -55,6 +61,34 @@ impl Routes {
         let place = routes.iter().position(|route| route == given).ok_or(41)?;
         routes.get(place + 1).map(|route| Given::route(route)).ok_or(43)
     }
+
+    /// Gives what pz_routes should for slots of so many bytes: a chart's place is real.
+    pub fn slots(&self, room: usize) -> Expected {
+        let routes = match &self.0 {
+            Ok(routes) => routes,
+            Err((number, place)) => {
+                return Ok(Given { number: *number, bytes: Vec::new(), beside: vec![0, 0, *place] })
+            }
+        };
+        if room < SLOT_SIZE {
+            return Err(42);
+        }
+        if routes.is_empty() {
+            return Err(43);
+        }
+        let listed = &routes[..routes.len().min(room / SLOT_SIZE).min(MOST_SLOTS)];
+        let more = usize::from(listed.len() < routes.len());
+        let bytes = listed.iter().flat_map(|route| slot(route)).collect();
+        Ok(Given::new(bytes, &[listed.len(), more, 0]))
+    }
+}
+
+/// Gives the slot of a route.
+pub fn slot(route: &[u8]) -> [u8; SLOT_SIZE] {
+    let mut slot = [0; SLOT_SIZE];
+    slot[0] = route.len() as u8;
+    slot[1..=route.len()].copy_from_slice(route);
+    slot
 }
 
 // Routes of one chart are never each other's beginning, so sorting compares them where they differ.

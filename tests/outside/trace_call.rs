@@ -1,9 +1,9 @@
-//! pz_first and pz_next, each beside the second list of routes, and the walk through all routes
-//! that a screen makes with them.
+//! pz_first, pz_next and pz_routes, each beside the second list of routes; the walk through all
+//! routes that a screen makes with the first two, and the list of them in slots.
 
 use crate::door::{self, hex, Answer};
-use crate::group::{Group, Stop};
-use crate::trace::{Route, Routes, MOST_STEPS};
+use crate::group::{Group, Outcome, Stop};
+use crate::trace::{Route, Routes, MOST_STEPS, SLOT_SIZE};
 
 /// Calls pz_first on a buffer that holds these bytes.
 pub fn try_first(
@@ -39,8 +39,35 @@ pub fn try_next(
     Ok(came)
 }
 
+/// Calls pz_routes and lends it slots of so many bytes.
+pub fn try_list(
+    group: &mut Group,
+    name: &str,
+    chart: &[u8],
+    routes: &Routes,
+    room: usize,
+) -> Result<Answer, Stop> {
+    let came = door::routes(chart, room);
+    group.compare(&came, &routes.slots(room), || {
+        format!("{name}: pz_routes, slots of {room}, chart {}", hex(chart))
+    })?;
+    Ok(came)
+}
+
+/// Lists the routes in slots without room, for one, for all but one, for all and for more.
+pub fn list_rooms(group: &mut Group, name: &str, chart: &[u8], routes: &Routes) -> Outcome {
+    let all = SLOT_SIZE * routes.list().len();
+    let few = [0, SLOT_SIZE - 1, SLOT_SIZE, 2 * SLOT_SIZE - 1];
+    let near = [all.saturating_sub(SLOT_SIZE), all.saturating_sub(1), all];
+    let past = [all + 1, all + SLOT_SIZE - 1, all + SLOT_SIZE];
+    for room in few.into_iter().chain(near).chain(past) {
+        try_list(group, name, chart, routes, room)?;
+    }
+    Ok(())
+}
+
 /// Walks through all routes in one buffer, handed on from call to call; gives the numbers that
-/// came, and checks the whole list.
+/// came, and checks the whole list. Then lists them in slots.
 pub fn walk_through(
     group: &mut Group,
     name: &str,
@@ -63,5 +90,6 @@ pub fn walk_through(
         let [expected, came] = [routes.list(), &list].map(|list| format!("{list:?}"));
         format!("{name}: all routes of {}\n  expected {expected}\n  came {came}", hex(chart))
     })?;
+    list_rooms(group, name, chart, routes)?;
     Ok(numbers)
 }

@@ -26,7 +26,8 @@ const MANY: usize = 100_000;
 // Lengths above 15, and some whose low bits alone would be a route's.
 const LONG: [usize; 9] = [16, 17, 48, 255, 256, 258, 1 << 16 | 2, 1 << 32 | 2, usize::MAX];
 
-fn routes_of(chart: &[u8]) -> Routes {
+/// Gives the routes of a chart that has not too many.
+pub fn routes_of(chart: &[u8]) -> Routes {
     Routes::of(chart, MANY).expect("a chart of few routes")
 }
 
@@ -152,7 +153,7 @@ pub fn thousand(more: usize) -> Draft {
 }
 
 /// Each two of so many nodes joined once.
-fn complete(nodes: usize) -> Draft {
+pub fn complete(nodes: usize) -> Draft {
     let mut draft = Draft::row(nodes);
     for other in 1..nodes {
         (0..other).for_each(|one| draft.join(one, other));
@@ -160,13 +161,14 @@ fn complete(nodes: usize) -> Draft {
     draft
 }
 
-fn ask(mut draft: Draft, from: usize, to: usize) -> Draft {
+/// The same, asked from one place to another.
+pub fn ask(mut draft: Draft, from: usize, to: usize) -> Draft {
     [draft.from, draft.to] = [from, to].map(|place| draft.nodes[place].station);
     draft
 }
 
-// The links from last to first, and each from its other end.
-fn turn(mut draft: Draft) -> Draft {
+/// The links from last to first, and each from its other end.
+pub fn turn(mut draft: Draft) -> Draft {
     draft.links.reverse();
     draft.links.iter_mut().for_each(|link| link.ends.reverse());
     draft

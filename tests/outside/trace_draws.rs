@@ -1,13 +1,13 @@
 //! Drawn charts of up to 16 nodes, thinned out until their routes are few: all of them walked
-//! through, then junk, short buffers and damaged charts.
+//! through and listed, then junk, short buffers and damaged charts.
 
 use crate::chart::LINK;
 use crate::chart_draft::{Draft, Station};
 use crate::chart_draws::{damage, draw_form, draw_link, draw_link_between, draw_nodes};
 use crate::draw::Draw;
 use crate::group::{Group, Outcome, Tally, Tests};
-use crate::trace::{Routes, MOST_STEPS};
-use crate::trace_call::{try_first, try_next, walk_through};
+use crate::trace::{Routes, MOST_STEPS, SLOT_SIZE};
+use crate::trace_call::{try_first, try_list, try_next, walk_through};
 
 pub const GROUPS: &[Tests] = &[("trace draws", draws)];
 
@@ -197,9 +197,16 @@ fn draw_junk(draw: &mut Draw, draft: &Draft, routes: &Routes) -> (Vec<u8>, usize
 
 // ---- draws ----
 
+// Draws how many bytes of slots are lent, seldom too few for one.
+fn draw_slots(draw: &mut Draw, routes: &Routes) -> usize {
+    let any = draw.below(SLOT_SIZE * (routes.list().len() + 2));
+    draw.one_of(&[0, SLOT_SIZE - 1, any, any, any, any, any, 1 << 12])
+}
+
 fn draws(group: &mut Group, draw: &mut Draw) -> Outcome {
     let mut first = Tally::new("pz_first");
     let mut next = Tally::new("pz_next");
+    let mut list = Tally::new("pz_routes");
     let mut none = 0;
     for _ in 0..DRAWN {
         let mut draft = draw_net(draw);
@@ -212,6 +219,8 @@ fn draws(group: &mut Group, draw: &mut Draw) -> Outcome {
         let numbers = walk_through(group, "drawn", &chart, &routes, buffer, length)?;
         first.saw(numbers[0]);
         numbers[1..].iter().for_each(|number| next.saw(*number));
+        let room = draw_slots(draw, &routes);
+        list.saw(try_list(group, "drawn", &chart, &routes, room)?.number);
 
         for _ in 0..JUNK {
             let (route, length) = draw_junk(draw, &draft, &routes);
@@ -233,6 +242,8 @@ fn draws(group: &mut Group, draw: &mut Draw) -> Outcome {
                 next.saw(came.number);
                 let came = try_first(group, "damaged", &damaged, &routes, &buffer, length)?;
                 first.saw(came.number);
+                let room = draw_slots(draw, &routes);
+                list.saw(try_list(group, "damaged", &damaged, &routes, room)?.number);
             }
         }
     }
@@ -240,5 +251,6 @@ fn draws(group: &mut Group, draw: &mut Draw) -> Outcome {
     let lengths: Vec<u8> = (0..=15).collect();
     let refusals: Vec<u8> = (21..=31).collect();
     first.settle_often(group, &[&lengths[..], &refusals, &[42, 43]].concat(), OFTEN)?;
-    next.settle_often(group, &[&lengths[1..], &refusals, &[41, 42, 43]].concat(), OFTEN)
+    next.settle_often(group, &[&lengths[1..], &refusals, &[41, 42, 43]].concat(), OFTEN)?;
+    list.settle_often(group, &[&[0][..], &refusals, &[42, 43]].concat(), OFTEN)
 }

@@ -28,7 +28,8 @@ use Rattle.route_search.specs.declared.Traced.{Traced}
 use Rattle.route_search.specs.declared.Traced.the-variants.{Route, Refused}
 use Rattle.route_search.specs.Answers.{Told}
 use Rattle.route_trace.specs.Trace.{traceFirst, traceNext}
-use Rattle.route_door.specs.Routes.{pzFirstNumber, pzFirstBuffer, pzNextNumber, pzNextBuffer}
+use Rattle.route_list_door.specs.Calls.{pzRoutesCount, pzRoutesMore, pzRoutesSlots}
+use Rattle.route_first_door.specs.Routes.{pzFirstNumber, pzFirstBuffer, pzNextNumber, pzNextBuffer}
 
 -- ---- questions and answers
 
@@ -52,6 +53,8 @@ pub data Asked : Type 0 where
   imaging : List ℕ → Asked
   -- the numbers that C gets of a chart's bytes: pz_first, then pz_next with the last number until a refusal
   tracing : List ℕ → Asked
+  -- all routes of a chart's bytes as C gets them, in so many bytes of zeros
+  slotting : List ℕ → ℕ → Asked
 
 -- the number and the count that a call on a ledger returns
 pub record Returned : Type 0 where
@@ -77,6 +80,8 @@ pub data Back : Type 0 where
   imaged : List ℕ → Back
   -- numbers
   numbered : List ℕ → Back
+  -- how many routes, 1 where others follow, and the slots
+  slotted : ℕ → ℕ → List ℕ → Back
 
 -- ---- what comes back
 
@@ -155,3 +160,4 @@ answerTo (opening f) = opened (readFrameOf f) (destinationsIn f) (contentsOf f)
 answerTo (sending e d l) = sent (frameBytes e (elementAt zeroAddress d) l)
 answerTo (imaging bytes) = imaged (pzChartReadImage bytes (replicate 937 0))
 answerTo (tracing bytes) = numbered (numbersFrom 20 bytes (pzFirstNumber bytes (lent [])) (pzFirstBuffer bytes (lent [])))
+answerTo (slotting bytes n) = slotted (pzRoutesCount bytes n) (pzRoutesMore bytes n) (pzRoutesSlots bytes (replicate n 0))

@@ -2,7 +2,8 @@
 -- the theorem.
 use Prim.Native.Nat.{ℕ}
 use mathlib.Core.Path.{_≡_}
-use mathlib.Core.List.{List, [], _∷_, List·Memᴰ}
+use mathlib.Core.List.{List, [], _∷_, _++_, List·Memᴰ}
+use lib.ListN.{length}
 use Rattle.envelope.specs.Cases.{fireFrame, fireFields}
 use Rattle.envelope_read.specs.declared.Read.the-variants.{Envelope}
 use Rattle.table.specs.declared.Choice.the-variants.{Local, Out, Refused as Unrouted}
@@ -16,7 +17,7 @@ use Rattle.chart.specs.Sample.{S, bytesS, S', bytesS'}
 use Rattle.chart_read.specs.Reading.{refusedAt}
 use Rattle.chart_image.specs.Cases.{imageS}
 use Rattle.route_search.specs.declared.Traced.the-variants.{Refused as NoRoute}
-use Rattle.cases.specs.Questions.{Asked, reading, listing, following, choosing, calling, opening, sending, imaging, tracing, Returned, Back, read, listed, told, chosen, called, opened, sent, imaged, numbered, lent, answerTo}
+use Rattle.cases.specs.Questions.{Asked, reading, listing, following, choosing, calling, opening, sending, imaging, tracing, slotting, Returned, Back, read, listed, told, chosen, called, opened, sent, imaged, numbered, slotted, lent, answerTo}
 use Rattle.cases.specs.Values.{port, seq, at, off, way, to}
 
 -- what is asked, and what must come back
@@ -42,6 +43,10 @@ refused k r = told (NoRoute k) (lent r)
 -- a call's number and count
 abbrev pub returns : ℕ → ℕ → Returned
 returns k n = record { refusal = k; count = n }
+
+-- a route's length, its links and zeros, 16 bytes in all
+abbrev pub slot : List ℕ → List ℕ
+slot r = length r ∷ lent r
 
 -- 9/20/1 answers 9/1/5 that the call is being made
 abbrev pub wait : Call
@@ -100,6 +105,9 @@ table =
     ∷ (imaging bytesS ⟶ imaged imageS)
     -- the routes of S through C: their lengths, and 43
     ∷ (tracing bytesS ⟶ numbered (2 ∷ 3 ∷ 2 ∷ 3 ∷ 43 ∷ []))
+    -- all of them in slots, and the first one where there is room for no other
+    ∷ (slotting bytesS 64 ⟶ slotted 4 0 (slot (0 ∷ 2 ∷ []) ++ slot (0 ∷ 4 ∷ 3 ∷ []) ++ slot (1 ∷ 3 ∷ []) ++ slot (1 ∷ 4 ∷ 2 ∷ [])))
+    ∷ (slotting bytesS 16 ⟶ slotted 1 1 (slot (0 ∷ 2 ∷ [])))
     ∷ []
 
 -- every case of the table holds

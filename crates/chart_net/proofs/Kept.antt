@@ -5,7 +5,7 @@ use mathlib.Core.Bool.{Bool, true, false, cond, _&&_, _||_}
 use mathlib.Core.Option.{none, some, Option·none-ne-some, Option·some-injective}
 use mathlib.Core.List.{List, [], _∷_}
 use native.Mathlib.Omega.{arith}
-use borrow.Author.Tests.{lt-ltb, le-ltb, ltb-true, lt-leb, ne-eqb}
+use borrow.Author.Tests.{lt-ltb, le-ltb, ltb-true, lt-leb, ne-eqb, eqb-true}
 use lib.Dec.{eqb, ltb, leb}
 use lib.ListN.{length, getD, set, replicate}
 use Rattle.lists.specs.Places.{row}
@@ -21,13 +21,13 @@ use Rattle.chart.proofs.Laws.{link-read}
 use Rattle.route.specs.Route.{Net, Sound}
 use Rattle.route.specs.All.{allRoutes}
 use Rattle.route.proofs.SameNet.{Alike, routes-agree}
-use Rattle.route_search.specs.declared.Far.the-variants.{Node, None}
-use Rattle.route_search.specs.Contracts.{nodePlace, isOut, isBack, otherEnd, farNode, nodeOf, net, routesOver}
-use Rattle.route_search.proofs.Leading.{far-in, sound}
+use Rattle.route_links.specs.Arrays.{nodePlace, isOut, isBack, otherEnd, farNode, net}
+use Rattle.route_links.proofs.Arrays.{far-in, sound}
+use Rattle.route_search.specs.Contracts.{routesOver}
 use Rattle.chart_refuse.specs.Promises.{Accepted}
 use Rattle.chart_net.specs.Net.{stationPlace, goesOut, goesBack, across, placed, farEnd, chartNet, start, routesOf, routesBetween}
 use Rattle.chart_net.specs.Contracts.{stationPlaceFor, endPlaces, endPlacesAt, passageOf, passageAt, endsFor, passagesFor, arrayRoutes}
-use Rattle.chart_net.proofs.Places.{crossed, place-written, place-few, at-place}
+use Rattle.chart_net.proofs.Places.{crossed, place-written, place-few, at-place, place-apart}
 
 -- ---- the arrays, an element at a time
 
@@ -92,7 +92,7 @@ far-there : (ns : Nodes) (ls : Links) (i a : ℕ) → i < ls .count → farEnd n
 unfolding farEnd
 far-there ns ls i a h = rw (lt-ltb i (ls .count) h)
 
-node-there : (m : ℕ) → m < 16 → nodePlace m ≡ Node m
+node-there : (m : ℕ) → m < 16 → nodePlace m ≡ some m
 unfolding nodePlace
 node-there m h = rw (lt-ltb m 16 h)
 
@@ -123,11 +123,11 @@ passed-back true (suc (suc (suc d))) = rw (lt-leb (suc (suc (suc d))) 2 (omega a
 -- a link from a node leads to the same place, whether one goes by stations or by places
 one-link : (ns : Nodes) (l : Link) (x y : ℕ) → stationPlace ns (stationOf (l .a)) ≡ x → stationPlace ns (stationOf (l .b)) ≡ y → x < 16 → y < 16
     → (on out back p q : Bool)
-    → placed ns (crossed on (out && p) (back && q) l) ≡ nodeOf (cond ((on && out) && p) (nodePlace y) (cond ((on && back) && q) (nodePlace x) None))
+    → placed ns (crossed on (out && p) (back && q) l) ≡ cond ((on && out) && p) (nodePlace y) (cond ((on && back) && q) (nodePlace x) none)
 one-link ns l x y ex ey hx hy false out back p q = refl
 one-link ns l x y ex ey hx hy true out back p q = go (out && p) (back && q)
   where
-    go : (o b : Bool) → placed ns (crossed true o b l) ≡ nodeOf (cond o (nodePlace y) (cond b (nodePlace x) None))
+    go : (o b : Bool) → placed ns (crossed true o b l) ≡ cond o (nodePlace y) (cond b (nodePlace x) none)
     go true b = rw (node-there y hy) (ap some ey)
     go false true = rw (node-there x hx) (ap some ex)
     go false false = refl
@@ -142,8 +142,9 @@ module _ (c : Chart) (ok : Accepted c) where
   below-16 : (s : Station) → hasNode (c .nodes) s ≡ true → stationPlace (c .nodes) s < 16
   below-16 s w = let h = place-written (c .nodes) s w in let k = ok .few-nodes in omega arith
 
-  far-same : (i a : ℕ) → i < c .links .count → a < c .nodes .count
-      → farEnd (c .nodes) (c .links) i a ≡ nodeOf (farNode (endsFor (c .nodes) (c .links)) (passagesFor (c .links)) (c .links .count) i a)
+  -- each link leads to the same node, in the chart and in the arrays
+  pub far-same : (i a : ℕ) → i < c .links .count → a < c .nodes .count
+      → farEnd (c .nodes) (c .links) i a ≡ farNode (endsFor (c .nodes) (c .links)) (passagesFor (c .links)) (c .links .count) i a
   unfolding otherEnd endPlacesAt endPlaces passageAt passageOf goesOut goesBack
   far-same i a h k =
       let l = linkAt ls i in
@@ -159,8 +160,8 @@ module _ (c : Chart) (ok : Accepted c) where
       far-there ns ls i a h
       ∙ ap₂ (λ (p q : Bool). placed ns (crossed (l .on) (goesOut l && p) (goesBack l && q) l)) (at-place ns (ok .once) (stationOf (l .a)) a k) (at-place ns (ok .once) (stationOf (l .b)) a k)
       ∙ one-link ns l x y refl refl (below-16 (stationOf (l .a)) (j .a)) (below-16 (stationOf (l .b)) (j .b)) (l .on) (goesOut l) (goesBack l) (eqb x a) (eqb y a)
-      ∙ sym (ap nodeOf (ap₂ (λ (o b : Bool). cond (o && eqb x a) (nodePlace y) (cond (b && eqb y a) (nodePlace x) None)) (passed-out (l .on) d) (passed-back (l .on) d)))
-      ∙ ap nodeOf (sym e)
+      ∙ sym (ap₂ (λ (o b : Bool). cond (o && eqb x a) (nodePlace y) (cond (b && eqb y a) (nodePlace x) none)) (passed-out (l .on) d) (passed-back (l .on) d))
+      ∙ sym e
 
   crossed-sound : (l : Link) (f : ℕ) → hasNode (c .nodes) (stationOf (l .a)) ≡ true → hasNode (c .nodes) (stationOf (l .b)) ≡ true
       → (on p q : Bool) → placed (c .nodes) (crossed on p q l) ≡ some f → f < c .nodes .count
@@ -174,6 +175,33 @@ module _ (c : Chart) (ok : Accepted c) where
       let h = place-written ns (stationOf (l .a)) wa in
       omega arith
   crossed-sound l f wa wb true false false e = absurd (Option·none-ne-some f e)
+
+  -- no link leads to the node that one stands at
+  pub leads-away : (i a f : ℕ) → i < c .links .count → a < c .nodes .count → farEnd (c .nodes) (c .links) i a ≡ some f → f ≡ a → ⊥
+  leads-away i a f h k e q =
+      let l = linkAt ls i in
+      go (l .on) (goesOut l) (goesBack l) (eqb x a) (eqb y a) refl refl
+      (sym (far-there ns ls i a h
+      ∙ ap₂ (λ (p q : Bool). placed ns (crossed (l .on) (goesOut l && p) (goesBack l && q) l)) (at-place ns (ok .once) (stationOf (l .a)) a k) (at-place ns (ok .once) (stationOf (l .b)) a k)) ∙ e)
+    where
+      x : ℕ
+      x = stationPlace (c .nodes) (stationOf (linkAt (c .links) i .a))
+
+      y : ℕ
+      y = stationPlace (c .nodes) (stationOf (linkAt (c .links) i .b))
+
+      two : x ≡ a → y ≡ a → ⊥
+      two p r = let j = ok .joins i h in place-apart (c .nodes) (ok .once) (stationOf (linkAt (c .links) i .a)) (stationOf (linkAt (c .links) i .b)) (j .a) (j .apart) (p ∙ sym r)
+
+      go : (on out back p r : Bool) → eqb x a ≡ p → eqb y a ≡ r → placed (c .nodes) (crossed on (out && p) (back && r) (linkAt (c .links) i)) ≡ some f → ⊥
+      go false out back p r u v z = Option·none-ne-some f z
+      go true true back true r u v z = let t : y ≡ f = Option·some-injective _ _ z in two (eqb-true x a u) (t ∙ q)
+      go true true true false true u v z = let t : x ≡ f = Option·some-injective _ _ z in two (t ∙ q) (eqb-true y a v)
+      go true true true false false u v z = Option·none-ne-some f z
+      go true true false false r u v z = Option·none-ne-some f z
+      go true false true p true u v z = let t : x ≡ f = Option·some-injective _ _ z in two (t ∙ q) (eqb-true y a v)
+      go true false true p false u v z = Option·none-ne-some f z
+      go true false false p r u v z = Option·none-ne-some f z
 
   -- every far end of an accepted chart is a node of it
   pub chart-sound : Sound (chartNet c)

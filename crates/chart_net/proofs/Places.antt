@@ -8,7 +8,7 @@ use native.Mathlib.Omega.{arith}
 use borrow.Author.Tests.{eqb-true, eq-eqb, lt-ltb, le-ltb}
 use lib.Dec.{eqb}
 use Rattle.lists.specs.Places.{anyBelow, firstBelow}
-use Rattle.lists.proofs.Bools.{and-left, and-right, both-same}
+use Rattle.lists.proofs.Bools.{and-left, and-right, both-ways, both-same}
 use Rattle.lists.proofs.Places.{any-agree, first-stop, first-found, first-none, first-below}
 use Rattle.address.specs.declared.Station.{Station}
 use Rattle.address.specs.Address.{stationOf, sameStation}
@@ -108,3 +108,12 @@ module _ (ns : Nodes) (once : (i : ℕ) → i < ns .count → hasNode (nodesBefo
 
       from : eqb (stationPlace ns s) a ≡ true → sameStation s (nodeAt ns a .station) ≡ true
       from e = station-sym s (nodeAt ns a .station) ∙ stands-there s a (eqb-true (stationPlace ns s) a e) h
+
+  -- two stations that are written have two places
+  pub place-apart : (s t : Station) → hasNode ns s ≡ true → sameStation s t ≡ false → stationPlace ns s ≡ stationPlace ns t → ⊥
+  place-apart s t w n e =
+      let k = stationPlace ns s in
+      let h : k < ns .count = place-written ns s w in
+      let p : s ≡ nodeAt ns k .station = station-eq s (nodeAt ns k .station) (at-place s k h ∙ eq-eqb k k refl) in
+      let q : t ≡ nodeAt ns k .station = station-eq t (nodeAt ns k .station) (at-place t k h ∙ eq-eqb (stationPlace ns t) k (sym e)) in
+      both-ways (ap (sameStation s) (q ∙ sym p) ∙ station-refl s) n

@@ -14,6 +14,7 @@ use Rattle.chart.specs.declared.Links.{Links}
 use Rattle.chart.specs.declared.Chart.{Chart}
 use Rattle.chart.specs.Values.{mostNodes, mostLinks, backOnly, linkAt}
 use Rattle.route_search.specs.Contracts.{routesOver}
+use Rattle.chart_net.specs.declared.Asked.{Asked}
 use Rattle.chart_net.specs.Net.{stationPlace}
 
 -- the place of the node at a station; 16, which is no node's place, where the nodes are too many
@@ -41,6 +42,10 @@ endsFor ns ls = cond (ltb mostLinks (ls .count)) (replicate mostLinks (0 ∷ 0 �
 
 unfoldable pub passagesFor : Links → List ℕ
 passagesFor ls = cond (ltb mostLinks (ls .count)) (replicate mostLinks 0) (row mostLinks 0 (passageAt ls) (ls .count))
+
+-- the places that the question names
+unfoldable pub askedOf : Chart → Asked
+askedOf c = record { from = stationPlaceFor (c .nodes) (c .from); to = stationPlaceFor (c .nodes) (c .to) }
 
 -- the routes over these arrays
 unfoldable pub arrayRoutes : Chart → List (List ℕ)

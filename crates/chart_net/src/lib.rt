@@ -3,6 +3,7 @@
 use address::Station;
 use address::station_of;
 use chart::BACK_ONLY;
+use chart::Chart;
 use chart::Link;
 use chart::Links;
 use chart::MOST_LINKS;
@@ -12,8 +13,14 @@ ghost use mathlib.Core.Path.{_≡_};
 ghost use Prim.Native.Nat.{_≤_};
 ghost use Rattle.chart_refuse.specs.Contracts.{KeysOf};
 ghost use Rattle.chart_net.specs.Net.{stationPlace};
-ghost use Rattle.chart_net.specs.Contracts.{stationPlaceFor, endPlaces, passageOf, endsFor, passagesFor};
+ghost use Rattle.chart_net.specs.Contracts.{stationPlaceFor, endPlaces, passageOf, endsFor, passagesFor, askedOf};
 ghost use Rattle.chart.specs.Values.{mostNodes};
+
+// The node places that the question names: where it begins, and where it ends.
+pub struct Asked {
+    pub from: u8,
+    pub to: u8,
+}
 
 // The place of the node at a station among at most 16 nodes with these keys, or their count where there is none.
 fn find_node(nodes: Nodes, keys: &[u32; 16], s: Station) -> u8
@@ -42,14 +49,6 @@ fn place_by(nodes: Nodes, keys: &[u32; 16], s: Station) -> u8
     find_node(nodes, keys, s)
 }
 
-// The place of the node at a station, or the count of the nodes where there is none; 16 where the nodes are too many.
-pub fn place_for(nodes: Nodes, s: Station) -> u8
-    ensures { λ r. ⌜ r ≡ stationPlaceFor nodes s ⌝ }
-{
-    let keys = chart_refuse::station_keys(nodes);
-    place_by(nodes, &keys, s)
-}
-
 // The two ends of a link, as node places.
 fn link_ends(nodes: Nodes, keys: &[u32; 16], l: Link) -> [u8; 2]
     requires { ⌜ KeysOf nodes (now keys) ⌝ }
@@ -63,23 +62,33 @@ fn link_ends(nodes: Nodes, keys: &[u32; 16], l: Link) -> [u8; 2]
 }
 
 // The two ends of each link, in 48 places, the unused ones zero; all of them where the links are too many.
-pub fn ends_for(nodes: Nodes, links: Links) -> [[u8; 2]; 48]
+fn ends_for(nodes: Nodes, keys: &[u32; 16], links: Links) -> [[u8; 2]; 48]
+    requires { ⌜ KeysOf nodes (now keys) ⌝ }
     ensures { λ r. ⌜ r ≡ endsFor nodes links ⌝ }
 {
     let mut ends = [[0u8; 2]; 48];
     if MOST_LINKS < links.count {
         return ends;
     }
-    let keys = chart_refuse::station_keys(nodes);
     let n = links.count as usize;
     let mut i: usize = 0;
     while i < n {
         let l = links.items[i];
-        let e = link_ends(nodes, &keys, l);
+        let e = link_ends(nodes, keys, l);
         ends[i] = e;
         i += 1;
     }
     ends
+}
+
+// The two ends of each link of a chart, likewise. The keys of its nodes are made once for all links.
+pub fn ends_of(c: Chart) -> [[u8; 2]; 48]
+    ensures { λ r. ⌜ r ≡ endsFor (c .nodes) (c .links) ⌝ }
+{
+    let nodes = c.nodes;
+    let links = c.links;
+    let keys = chart_refuse::station_keys(nodes);
+    ends_for(nodes, &keys, links)
 }
 
 // The way that a link is passed: 0 not at all, 1 both ways, 2 out, 3 back.
@@ -110,4 +119,15 @@ pub fn passages_for(links: Links) -> [u8; 48]
         i += 1;
     }
     ways
+}
+
+// The places that the question of a chart names; 16 where its nodes are too many.
+pub fn asked_of(c: Chart) -> Asked
+    ensures { λ r. ⌜ r ≡ askedOf c ⌝ }
+{
+    let nodes = c.nodes;
+    let keys = chart_refuse::station_keys(nodes);
+    let from = place_by(nodes, &keys, c.from);
+    let to = place_by(nodes, &keys, c.to);
+    Asked { from, to }
 }

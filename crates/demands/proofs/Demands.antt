@@ -1,7 +1,7 @@
 -- The three demands: each statement is a theorem of the crate that it speaks of; what a refusal leaves is said here for every call.
 use Prim.Native.Nat.{ℕ, zero, suc}
-use mathlib.Core.Path.{_≡_, refl}
-use mathlib.Core.Bool.{cond, _&&_}
+use mathlib.Core.Path.{_≡_, refl, ap}
+use mathlib.Core.Bool.{Bool, cond, _&&_}
 use mathlib.Core.List.{List, [], _∷_}
 use lib.Dec.{eqb, ltb}
 use lib.ListN.{length}
@@ -44,8 +44,13 @@ use Rattle.chart_form.proofs.Promises.{restore-undoes-renew, renew-undoes-resto
 use Rattle.chart_read_door.specs.Calls.{pzChartReadRefusal, pzChartReadImage}
 use Rattle.chart_write_door.specs.Calls.{pzChartWriteRefusal, pzChartWriteCount, pzChartWriteChart}
 use Rattle.chart_form_door.specs.Calls.{pzChartRenewRefusal, pzChartRenewCount, pzChartRenewChart, pzChartRestoreRefusal, pzChartRestoreCount, pzChartRestoreChart}
-use Rattle.route_trace.proofs.Promises.{routes-listed}
-use Rattle.route_door.proofs.Promises.{every-route-called, short-called, unread-called, route-numbers}
+use Rattle.route.specs.All.{firstOf}
+use Rattle.route_search.specs.Answers.{findingRefusal}
+use Rattle.route_list.specs.Listing.{listRefusal, listCount, listMore, listAfter}
+use Rattle.route_trace.proofs.Promises.{routes-listed, chart-links-kept}
+use Rattle.route_first_door.proofs.Promises.{every-route-called, short-called, unread-called, route-numbers}
+use Rattle.route_list_door.specs.Calls.{routesAsked, pzRoutesRefusal, pzRoutesCount, pzRoutesMore, pzRoutesSlots}
+use Rattle.route_list_door.proofs.Promises.{every-slot-called}
 use Rattle.sheet.specs.Sheet.{sheetText, sheetRefusal, sheetAfter}
 use Rattle.demands.specs.Demands.{EveryCallAnswers, EnvelopesAndLegs, EveryRouteOnce, Demands}
 
@@ -77,6 +82,21 @@ module _ (chart : List ℕ) (m : ℕ) where
       (tested B 32 (eqb plain plain && oneWay (readChartOf chart .chart .links)) refl
       (tested B 10 (ltb m (length (movedBytes plain chart))) refl (record { is = refl })))
 
+  abbrev L : List ℕ
+  L = 0 ∷ 21 ∷ 22 ∷ 23 ∷ 24 ∷ 25 ∷ 26 ∷ 27 ∷ 28 ∷ 29 ∷ 30 ∷ 31 ∷ 42 ∷ 43 ∷ []
+
+  -- of a list of routes there is a first one, or 43
+  first-given : (rs : List (List ℕ)) → Given L (findingRefusal (firstOf rs))
+  unfolding firstOf findingRefusal
+  first-given [] = record { is = refl }
+  first-given (r ∷ rs) = record { is = refl }
+
+  list-given : Given L (pzRoutesRefusal chart m)
+  unfolding pzRoutesRefusal listRefusal
+  list-given =
+      either L (readChartOf chart .refusal) (record { is = among-more (readChartOf chart .refusal) chartReaderRefusals (42 ∷ 43 ∷ []) (reader-numbers chart) })
+      (tested L 42 (ltb m 16) refl (first-given (routesAsked chart)))
+
 module _ (image : List ℕ) (room : ℕ) where
   abbrev W : List ℕ
   W = 0 ∷ 10 ∷ 23 ∷ 24 ∷ 26 ∷ 27 ∷ 28 ∷ 29 ∷ 30 ∷ []
@@ -88,6 +108,11 @@ module _ (image : List ℕ) (room : ℕ) where
 sheet-given : (chart : List ℕ) (room : ℕ) → Given (0 ∷ 10 ∷ []) (sheetRefusal chart room)
 unfolding sheetRefusal
 sheet-given chart room = tested (0 ∷ 10 ∷ []) 10 (ltb room (length (sheetText chart))) refl (record { is = refl })
+
+-- no others follow a refusal
+none-more : (k : ℕ) (rs : List (List ℕ)) (n : ℕ) → (k ≡ 0 → ⊥) → cond {A = ℕ} (listMore k rs n) 1 0 ≡ 0
+unfolding listMore
+none-more k rs n h = ap (λ (b : Bool). cond {A = ℕ} b 1 0) (refused _ _ k h)
 
 -- what stands beside a refused choice is 0
 none-local : (c : Choice) → (choiceRefusal c ≡ 0 → ⊥) → cond {A = ℕ} (choiceLocal c) 1 0 ≡ 0
@@ -103,7 +128,7 @@ no-port (Refused k) h = refl
 -- ---- the demands
 
 every-call-answers : EveryCallAnswers
-unfolding pzReadImage pzWriteCount pzWriteFrame pzChoose pzChooseRefusal pzChooseLocal pzChoosePort pzAnswer pzAnswerImage pzTick pzTickImage pzClear pzClearImage pzAccept pzAcceptImage ledgerAfter acceptOf tickOf refusalOf pzChartReadImage pzChartWriteCount pzChartWriteChart pzChartRenewCount pzChartRenewChart pzChartRestoreCount pzChartRestoreChart sheetAfter
+unfolding pzReadImage pzWriteCount pzWriteFrame pzChoose pzChooseRefusal pzChooseLocal pzChoosePort pzAnswer pzAnswerImage pzTick pzTickImage pzClear pzClearImage pzAccept pzAcceptImage ledgerAfter acceptOf tickOf refusalOf pzChartReadImage pzChartWriteCount pzChartWriteChart pzChartRenewCount pzChartRenewChart pzChartRestoreCount pzChartRestoreChart pzRoutesCount pzRoutesMore pzRoutesSlots listCount listAfter sheetAfter
 every-call-answers =
     record {
       read = λ f image b. record { one-of = pz-read-numbers f b (length image); untouched = refused _ _ _; none-counted = λ h. refl };
@@ -119,6 +144,8 @@ every-call-answers =
       chart-renew = λ chart out. record { one-of = chart-renew-given chart (length out) .is; untouched = refused _ _ _; none-counted = refused _ _ _ };
       chart-restore = λ chart out. record { one-of = chart-restore-given chart (length out) .is; untouched = refused _ _ _; none-counted = refused _ _ _ };
       routes = route-numbers;
+      list = λ chart slots. record { one-of = list-given chart (length slots) .is; untouched = refused _ _ _; none-counted = refused _ _ _ };
+      list-more = λ chart slots. record { one-of = list-given chart (length slots) .is; untouched = refused _ _ _; none-counted = none-more _ _ _ };
       sheet = λ chart text. record { one-of = sheet-given chart (length text) .is; untouched = refused _ _ _; none-counted = refused _ _ _ };
     }
 
@@ -152,6 +179,8 @@ every-route-once =
     record {
       listed = routes-listed;
       called = every-route-called;
+      slots = every-slot-called;
+      links-kept = chart-links-kept;
       chart-read-undoes-write = chart.read-undoes-write;
       chart-write-undoes-read = chart.write-undoes-read;
       chart-image-read-undoes-write = chart-door.read-undoes-write;

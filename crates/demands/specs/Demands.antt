@@ -29,8 +29,10 @@ use Rattle.chart_form.specs.Promises.{RestoreUndoesRenew, RenewUndoesRestore, C
 use Rattle.chart_read_door.specs.Calls.{pzChartReadRefusal, pzChartReadImage}
 use Rattle.chart_write_door.specs.Calls.{pzChartWriteRefusal, pzChartWriteCount, pzChartWriteChart}
 use Rattle.chart_form_door.specs.Calls.{pzChartRenewRefusal, pzChartRenewCount, pzChartRenewChart, pzChartRestoreRefusal, pzChartRestoreCount, pzChartRestoreChart}
-use Rattle.route_trace.specs.Promises.{RoutesListed}
-use Rattle.route_door.specs.Promises.{EveryRouteCalled, ShortCalled, UnreadCalled, RouteNumbers}
+use Rattle.route_trace.specs.Promises.{RoutesListed, ChartLinksKept}
+use Rattle.route_first_door.specs.Promises.{EveryRouteCalled, ShortCalled, UnreadCalled, RouteNumbers}
+use Rattle.route_list_door.specs.Calls.{pzRoutesRefusal, pzRoutesCount, pzRoutesMore, pzRoutesSlots}
+use Rattle.route_list_door.specs.Promises.{EverySlotCalled}
 use Rattle.sheet.specs.Sheet.{sheetText, sheetRefusal, sheetAfter}
 
 -- a call gave 0, or one of these numbers: then no lent byte changed, and the count beside it is 0
@@ -67,6 +69,11 @@ pub record EveryCallAnswers : Type 0 where
       → Answered (21 ∷ 22 ∷ 23 ∷ 24 ∷ 25 ∷ 26 ∷ 27 ∷ 28 ∷ 29 ∷ 30 ∷ 31 ∷ 32 ∷ 10 ∷ []) (pzChartRestoreRefusal chart (length out)) (pzChartRestoreCount chart (length out)) out (pzChartRestoreChart chart out)
   -- a route's length, 0 to 15, or a refusal, every one of which is above 15
   pub routes : RouteNumbers
+  -- all routes in slots: how many there are, and whether others follow, are the counts beside its number
+  pub list : (chart slots : List ℕ)
+      → Answered (21 ∷ 22 ∷ 23 ∷ 24 ∷ 25 ∷ 26 ∷ 27 ∷ 28 ∷ 29 ∷ 30 ∷ 31 ∷ 42 ∷ 43 ∷ []) (pzRoutesRefusal chart (length slots)) (pzRoutesCount chart (length slots)) slots (pzRoutesSlots chart slots)
+  pub list-more : (chart slots : List ℕ)
+      → Answered (21 ∷ 22 ∷ 23 ∷ 24 ∷ 25 ∷ 26 ∷ 27 ∷ 28 ∷ 29 ∷ 30 ∷ 31 ∷ 42 ∷ 43 ∷ []) (pzRoutesRefusal chart (length slots)) (pzRoutesMore chart (length slots)) slots (pzRoutesSlots chart slots)
   -- the printed sheet
   pub sheet : (chart text : List ℕ) → Answered (10 ∷ []) (sheetRefusal chart (length text)) (unlessRefused (sheetRefusal chart (length text)) (length (sheetText chart)) 0) text (sheetAfter chart text)
 
@@ -109,6 +116,10 @@ pub record EveryRouteOnce : Type 0 where
   pub listed : RoutesListed
   -- pz_first, then pz_next with the number that came back, on the chart's bytes and one buffer: that list, then 43; what is no route is 41; bytes past a route stay
   pub called : EveryRouteCalled
+  -- pz_routes on the chart's bytes: slot k holds the k-th route of that list, all of them or as many as there is room for, and the next goes on from the last
+  pub slots : EverySlotCalled
+  -- the links that are kept beside a node are those of the chart that can be passed from there, in order of place
+  pub links-kept : ChartLinksKept
   -- charts are read and written, and each undoes the other, as values and as images; no number refuses exactly the charts that are right
   pub chart-read-undoes-write : ChartReadUndoesWrite
   pub chart-write-undoes-read : ChartWriteUndoesRead

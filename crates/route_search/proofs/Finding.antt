@@ -1,139 +1,38 @@
--- The two steps that call on each other, over the theory of routes: each branch of the code is one law, and one law puts a link before a route that was found.
-use mathlib.Core.Path.{_≡_, refl, sym, ap, ap₂, _∙_}
-use mathlib.Core.Bool.{Bool, true, false, cond}
-use mathlib.Core.Option.{some}
-use mathlib.Core.List.{List, [], _∷_, _++_, append-assoc}
-use Prim.Native.Nat.{ℕ, zero, suc, _+_, _-_, _<_, _≤_}
-use native.Mathlib.Numerals.{add-one}
+-- The first route by some links, turn by turn; and what the code holds: one law puts a link before a route that was found.
+use mathlib.Core.Path.{_≡_, refl, sym, ap, _∙_}
+use mathlib.Core.List.{List, [], _∷_, _++_, map, append-assoc}
+use Prim.Native.Nat.{ℕ, suc, _+_, _-_, _≤_}
 use native.Mathlib.Omega.{arith}
+use lib.Bits.{bitXor}
+use lib.Dec.{lit≤}
 use lib.ListN.{length, getD, set, length-replicate, replicate-append-replicate, length-append}
 use lib.Seq.{set-at}
-use lib.Dec.{lit≤}
-use Rattle.route.specs.Route.{Net}
-use Rattle.route.specs.All.{unmet, allFrom, Finding, route, noMore, noRoute, firstOf}
-use Rattle.route.specs.Contracts.{leastTry, leastFrom}
-use Rattle.route.proofs.Next.{orLater, behind, least-here, least-on, try-end, try-cut, try-met, try-over}
-use Rattle.route_search.specs.Contracts.{farNode, nodeOf, net, metOf, ifOpen, openOf, orStep, stepFrom, zeros, foundAt}
-use Rattle.route_search.proofs.Leading.{never, far-inside, if-open, open-below, open-mark, met-set, sound, way-by}
-use Rattle.route_search.specs.declared.Far.{Far}
-use Rattle.route_search.specs.declared.Far.the-variants.{Node, None}
-use Rattle.route_search.specs.declared.Step.{Step}
-use Rattle.route_search.specs.declared.Step.the-variants.{By, End}
+use Rattle.route.specs.All.{Finding, route, noMore, noRoute, firstOf}
+use Rattle.route.proofs.Next.{orLater, behind, first-append, first-map}
+use Rattle.route_links.specs.Contracts.{alone, routesOn, routesBy}
+use Rattle.route_links.proofs.Arrays.{never}
+use Rattle.route_links.proofs.Standing.{routes-here}
+use Rattle.route_links.proofs.Turning.{Turn, routes-none}
+use Rattle.route_search.specs.Contracts.{zeros, foundAt}
 use Rattle.route_search.specs.declared.Found.{Found}
 
-module _ (ends : List (List ℕ)) (ways : List ℕ) (links to : ℕ) where
-  abbrev G : Net
-  G = net ends ways links to
+-- ---- the first route
 
-  -- an open end is one that the theory passes
-  open-far : (met : List Bool) (n i m : ℕ) → openOf ends ways links met i n ≡ Node m → (G .far i n ≡ some m) × (metOf met m ≡ false)
-  open-far met n i m e =
-      let p = if-open met (farNode ends ways links i n) m e in
-      (ap nodeOf (p .0), p .1)
+-- by the lowest link, or else by the others
+pub first-turn : {t : List ℕ} {at gone links d i : ℕ} → Turn t at gone links d i
+    → firstOf (routesBy t at gone links) ≡ orLater (behind i (firstOf (routesOn t (getD t (32 + i) 0 - at) gone))) (firstOf (routesBy t at gone (bitXor links (alone i))))
+first-turn {t} {at} {gone} {links} {d} {i} u =
+    let l = routesOn t (getD t (32 + i) 0 - at) gone in
+    let rest = routesBy t at gone (bitXor links (alone i)) in
+    ap firstOf (u .says) ∙ first-append (map (λ r. i ∷ r) l) rest ∙ ap (λ a. orLater a (firstOf rest)) (first-map i l)
 
-  -- a link that leads nowhere, or to a node that is met
-  try-shut : (met : List Bool) (n i : ℕ) → i < links → openOf ends ways links met i n ≡ None → leastTry G n (metOf met) i ≡ leastTry G n (metOf met) (suc i)
-  try-shut met n i h e = go (farNode ends ways links i n) refl e
-    where
-      test : (m : ℕ) → farNode ends ways links i n ≡ Node m → (b : Bool) → getD met m false ≡ b → cond b None (Node m) ≡ None
-          → leastTry G n (metOf met) i ≡ leastTry G n (metOf met) (suc i)
-      test m q true t e = try-met G n (metOf met) i h m (ap nodeOf q) t
-      test m q false t e = never (cc)
+pub first-none : (t : List ℕ) (at gone links : ℕ) → links ≡ 0 → firstOf (routesBy t at gone links) ≡ noMore
+unfolding firstOf
+first-none t at gone links e = ap firstOf (routes-none t at gone links e)
 
-      go : (f : Far) → farNode ends ways links i n ≡ f → ifOpen met f ≡ None → leastTry G n (metOf met) i ≡ leastTry G n (metOf met) (suc i)
-      go (Node m) q e = test m q (getD met m false) refl e
-      go None q e = try-cut G n (metOf met) i h (ap nodeOf q)
-
-  -- a link that leads on
-  try-leads : (met : List Bool) (n i m : ℕ) → i < links → m < length met → openOf ends ways links met i n ≡ Node m
-      → leastTry G n (metOf met) i ≡ orLater (behind i (leastFrom G m (metOf (set met m true)))) (leastTry G n (metOf met) (i + 1))
-  try-leads met n i m h lt e =
-      let p = open-far met n i m e in
-      try-over G n (metOf met) i h m (p .0) (p .1)
-      ∙ ap₂ (λ g j. orLater (behind i (leastFrom G m g)) (leastTry G n (metOf met) j)) (sym (met-set met m lt)) (sym (add-one i))
-
-  -- no link leads on
-  pub seek-end : (met : List Bool) (n i j : ℕ) → j ≡ links - i → stepFrom (farNode ends ways links) met n i j ≡ End → leastTry G n (metOf met) i ≡ noMore
-  unfolding stepFrom
-  seek-end met n i zero l e = try-end G n (metOf met) i (omega arith)
-  seek-end met n i (suc j) l e = go (openOf ends ways links met i n) refl e (λ q. seek-end met n (suc i) j (omega arith) q)
-    where
-      go : (f : Far) → openOf ends ways links met i n ≡ f → orStep i f (stepFrom (farNode ends ways links) met n (suc i) j) ≡ End
-          → (stepFrom (farNode ends ways links) met n (suc i) j ≡ End → leastTry G n (metOf met) (suc i) ≡ noMore)
-          → leastTry G n (metOf met) i ≡ noMore
-      go (Node m) p q ih = never (cc)
-      go None p q ih = try-shut met n i (omega arith) p ∙ ih q
-
-  -- link k leads on to the node m
-  pub record Led (met : List Bool) (n i k m : ℕ) : Type 0 where
-    pub from : i ≤ k
-    pub below : k < links
-    pub opens : openOf ends ways links met k n ≡ Node m
-    pub same : leastTry (net ends ways links to) n (metOf met) i ≡ leastTry (net ends ways links to) n (metOf met) k
-
-  pub seek-by : (met : List Bool) (n i j k m : ℕ) → j ≡ links - i → stepFrom (farNode ends ways links) met n i j ≡ By k m → Led met n i k m
-  unfolding stepFrom
-  seek-by met n i zero k m l e = never (cc)
-  seek-by met n i (suc j) k m l e = go (openOf ends ways links met i n) refl e (λ q. seek-by met n (suc i) j k m (omega arith) q)
-    where
-      go : (f : Far) → openOf ends ways links met i n ≡ f → orStep i f (stepFrom (farNode ends ways links) met n (suc i) j) ≡ By k m
-          → (stepFrom (farNode ends ways links) met n (suc i) j ≡ By k m → Led met n (suc i) k m) → Led met n i k m
-      go (Node m') p q ih =
-          let a : i ≡ k = cc in
-          let b : m' ≡ m = cc in
-          record { from = omega arith; below = omega arith; opens = rw (← a, ← b) p; same = rw (← a) }
-      go None p q ih =
-          let r = ih q in
-          record { from = omega arith; below = r .below; opens = r .opens; same = try-shut met n i (omega arith) p ∙ r .same }
-
-  -- whether the link at place i itself leads on: another is found, or none, or it is the one
-  seek-not : (met : List Bool) (n i : ℕ) {w : Step} → stepFrom (farNode ends ways links) met n i (links - i) ≡ w → ((m : ℕ) → w ≡ By i m → ⊥) → openOf ends ways links met i n ≡ None
-  seek-not met n i e k = go (openOf ends ways links met i n) refl
-    where
-      go : (f : Far) → openOf ends ways links met i n ≡ f → openOf ends ways links met i n ≡ None
-      go None p = p
-      go (Node m) p =
-          let h = far-inside ends ways links i n m (if-open met (farNode ends ways links i n) m p .0) in
-          absurd (k m (sym e ∙ way-by (farNode ends ways links) links met n i m h p))
-
-  pub step-none : (met : List Bool) (n i : ℕ) → stepFrom (farNode ends ways links) met n i (links - i) ≡ End → openOf ends ways links met i n ≡ None
-  step-none met n i e = seek-not met n i e (λ m p. never (cc))
-
-  pub step-past : (met : List Bool) (n i k m : ℕ) → (k ≡ i → ⊥) → stepFrom (farNode ends ways links) met n i (links - i) ≡ By k m → openOf ends ways links met i n ≡ None
-  step-past met n i k m h e = seek-not met n i e (λ m' p. h (cc))
-
-  pub step-here : (met : List Bool) (n i k m : ℕ) → k ≡ i → stepFrom (farNode ends ways links) met n i (links - i) ≡ By k m → openOf ends ways links met i n ≡ Node m
-  step-here met n i k m h e = rw h at (seek-by met n i (links - i) k m refl e .opens)
-
-  -- the same with all that the code needs: one node fewer is not met, and the theory takes the link found or goes on after it
-  pub record Stepped (met : List Bool) (n i k m : ℕ) : Type 0 where
-    pub from : i ≤ k
-    pub below : k < links
-    pub fewer : suc (unmet 16 (metOf (set met m true))) ≡ unmet 16 (metOf met)
-    pub says : leastTry (net ends ways links to) n (metOf met) i
-        ≡ orLater (behind k (leastFrom (net ends ways links to) m (metOf (set met m true)))) (leastTry (net ends ways links to) n (metOf met) (k + 1))
-
-  pub stepped : (met : List Bool) (n i k m : ℕ) → m < length met → stepFrom (farNode ends ways links) met n i (links - i) ≡ By k m → Stepped met n i k m
-  stepped met n i k m lt e =
-      let l = seek-by met n i (links - i) k m refl e in
-      record {
-        from = l .from;
-        below = l .below;
-        fewer = open-mark ends ways links met k n m lt (l .opens);
-        says = l .same ∙ try-leads met n k m (l .below) lt (l .opens);
-      }
-
-  pub walk-here : (met : List Bool) (n : ℕ) → n ≡ to → leastFrom G n (metOf met) ≡ route []
-  walk-here met n e = least-here G n (metOf met) e
-
-  pub walk-try : (met : List Bool) (n : ℕ) → (n ≡ to → ⊥) → leastFrom G n (metOf met) ≡ leastTry G n (metOf met) 0
-  walk-try met n e = least-on G n (metOf met) (sound ends ways links to) e
-
--- a node that a link leads to is a node place
-pub way-node : (ends : List (List ℕ)) (ways : List ℕ) (links : ℕ) (met : List Bool) (n i k m : ℕ) → stepFrom (farNode ends ways links) met n i (links - i) ≡ By k m → m < 16
-way-node ends ways links met n i k m e =
-    let l = seek-by ends ways links 0 met n i (links - i) k m refl e in
-    open-below ends ways links met k n m (l .opens)
+pub first-here : (t : List ℕ) (f gone : ℕ) → f ≡ getD t 80 0 → firstOf (routesOn t f gone) ≡ route []
+unfolding firstOf
+first-here t f gone e = ap firstOf (routes-here t f gone e)
 
 -- ---- what the code holds
 
@@ -213,8 +112,3 @@ found-len d (route r) f e h =
     let l : f .len ≡ d + length r = ap (λ (g : Found). g .len) e in
     let k : length (f .route) ≡ d + (length r + (15 - (d + length r))) = ap (λ (g : Found). length (g .route)) e ∙ simp (length-append, length-replicate) in
     omega arith
-
--- the least route is never told to be no route
-pub least-known : (G : Net) (n : ℕ) (met : ℕ → Bool) → leastFrom G n met ≡ noRoute → ⊥
-unfolding leastFrom
-least-known G n met e = first-some (allFrom G n met) e

@@ -1,126 +1,172 @@
 -- A given route, read link by link from its place d on: whether it is one, and what follows it. Each branch of the code is one law.
-use mathlib.Core.Path.{_≡_, refl, sym, ap, _∙_}
-use mathlib.Core.Bool.{Bool, true, false, not, cond, _&&_, _||_}
+use mathlib.Core.Path.{_≡_, refl, sym, ap, ap₂, subst, _∙_}
+use mathlib.Core.Bool.{Bool, true, false, _&&_, _||_}
 use mathlib.Core.Option.{some}
 use mathlib.Core.List.{List, [], _∷_}
-use Prim.Native.Nat.{ℕ, suc, _+_, _<_, _≤_}
+use Prim.Native.Nat.{ℕ, suc, _+_, _-_, _/_, _%_, _^_, _<_, _≤_}
 use native.Mathlib.Numerals.{add-one}
-use borrow.Author.Tests.{leb-true, leb-false, eqb-true, eqb-false, eq-eqb, ne-eqb, lt-ltb}
-use lib.ListN.{length, getD, set, drop, drop-of-length-le}
+use native.Mathlib.Omega.{arith}
+use borrow.Author.Tests.{leb-true, leb-false, eqb-true, eqb-false, eq-eqb, ne-eqb}
+use lib.Bits.{bitAnd, bitXor}
+use lib.Dec.{eqb, leb}
+use lib.ListN.{length, getD, drop, drop-of-length-le}
 use lib.Seq.{drop-cons}
-use lib.Dec.{eqb, leb, ltb}
-use Rattle.lists.proofs.Bools.{and-left, and-right, or-no-left, or-no-right, both-ways}
-use Rattle.route.specs.Route.{Net, also}
-use Rattle.route.specs.All.{unmet, allFrom, Finding, noMore, noRoute, firstOf, nextOf}
-use Rattle.route.specs.Contracts.{leastTry, goesOn, isRoute}
+use Rattle.lists.proofs.Bools.{and-left, and-right, or-no-left, or-no-right, no-true, both-ways}
+use Rattle.route.specs.Route.{Net, Sound, also, IsRoute, arrived, passed}
+use Rattle.route.specs.All.{linksFrom, tries, allFrom, noMore, noRoute, firstOf, nextOf}
+use Rattle.route.specs.Contracts.{leastTry, isRoute}
 use Rattle.route.proofs.Laws.{all-here, all-sound}
 use Rattle.route.proofs.Next.{orLater, behind, next-found, next-absent, next-on, isRoute-yes, isRoute-of}
-use Rattle.route_search.specs.Contracts.{farNode, nodeOf, net, metOf, ifOpen, openOf}
-use Rattle.route_search.proofs.Leading.{never, far-inside, if-open, open-mark, met-set, sound}
-use Rattle.route_search.specs.declared.Far.{Far}
-use Rattle.route_search.specs.declared.Far.the-variants.{Node, None}
+use Rattle.route_links.specs.Sets.{has}
+use Rattle.route_links.specs.Contracts.{netOf, metOf, Covers, goneAfter, linksOn, routesOn, routesBy, Standing, Choosing}
+use Rattle.route_links.proofs.Arrays.{never}
+use Rattle.route_links.proofs.Cover.{later-cover}
+use Rattle.route_links.proofs.Digits.{without-small}
+use Rattle.route_links.proofs.Standing.{met-after, fewer, opened, gone-known, links-small, left}
+use Rattle.route_links.proofs.Table.{table-sound}
 
-module _ (ends : List (List ℕ)) (ways : List ℕ) (links to : ℕ) (r : List ℕ) (d : ℕ) (met : List Bool) (n : ℕ) where
-  abbrev H : Net
-  H = net ends ways links to
+-- ---- the digit of a link
 
-  route-end : length r ≤ d → isRoute H n (metOf met) (drop d r) ≡ eqb n to
-  unfolding isRoute
-  route-end h = rw (drop-of-length-le r h)
+pub is-in : (w i : ℕ) → w / 2 ^ i % 2 ≡ 1 → has w i ≡ true
+unfolding has
+is-in w i e = eq-eqb (w / 2 ^ i % 2) 1 e
 
-  route-arrived : d < length r → n ≡ to → isRoute H n (metOf met) (drop d r) ≡ false
-  unfolding isRoute
-  route-arrived h e = rw (drop-cons r d 0 h, eq-eqb n to e)
+pub not-in : (w i : ℕ) → (w / 2 ^ i % 2 ≡ 1 → ⊥) → has w i ≡ false
+unfolding has
+not-in w i e = ne-eqb (w / 2 ^ i % 2) 1 e
 
-  route-off : d < length r → (n ≡ to → ⊥) → openOf ends ways links met (getD r d 0) n ≡ None → isRoute H n (metOf met) (drop d r) ≡ false
-  unfolding isRoute goesOn
-  route-off h e f = rw (drop-cons r d 0 h, ne-eqb n to e) (go (ltb (getD r d 0) links) (farNode ends ways links (getD r d 0) n) f)
-    where
-      go : (b : Bool) (f : Far) → ifOpen met f ≡ None
-          → (b && goesOn (metOf met) (λ m. isRoute H m (also m (metOf met)) (drop (suc d) r)) (nodeOf f)) ≡ false
-      go false f q = refl
-      go true None q = refl
-      go true (Node m) q = test (getD met m false) refl q
-        where
-          test : (b : Bool) → getD met m false ≡ b → cond b None (Node m) ≡ None
-              → (not (metOf met m) && isRoute H m (also m (metOf met)) (drop (suc d) r)) ≡ false
-          test true t q = simp t
-          test false t q = never (cc)
+-- ---- after a given route, over any net
 
-  route-on : (m : ℕ) → d < length r → (n ≡ to → ⊥) → m < length met → openOf ends ways links met (getD r d 0) n ≡ Node m
-      → isRoute H n (metOf met) (drop d r) ≡ isRoute H m (metOf (set met m true)) (drop (d + 1) r)
-  unfolding isRoute goesOn
-  route-on m h e lt f =
-      let q = if-open met (farNode ends ways links (getD r d 0) n) m f in
-      rw (drop-cons r d 0 h, ne-eqb n to e, lt-ltb (getD r d 0) links (far-inside ends ways links (getD r d 0) n m (q .0)), q .0, q .1, met-set met m lt, add-one d)
-
--- ---- the route after a given one
-
-module _ (ends : List (List ℕ)) (ways : List ℕ) (links to : ℕ) where
-  abbrev K : Net
-  K = net ends ways links to
-
+module _ (G : Net) (sound : Sound G) where
   -- after what is no route there is none
-  not-route : (n : ℕ) (mt : ℕ → Bool) (r : List ℕ) → isRoute K n mt r ≡ false → nextOf (allFrom K n mt) r ≡ noRoute
-  not-route n mt r h = next-absent (allFrom K n mt) r (λ m. both-ways (isRoute-of K (all-sound K n mt r m)) h)
+  no-route : (n : ℕ) (met : ℕ → Bool) (r : List ℕ) → (IsRoute G n met r → ⊥) → nextOf (allFrom G n met) r ≡ noRoute
+  no-route n met r h = next-absent (allFrom G n met) r (λ m. h (all-sound G n met r m))
 
   -- after i and a route from where it leads: that after the route, or else the least that begins with a later link
-  later-step : (n i m : ℕ) (mt : ℕ → Bool) (rest : List ℕ) → (n ≡ to → ⊥) → i < links → K .far i n ≡ some m → mt m ≡ false
-      → isRoute K n mt (i ∷ rest) ≡ isRoute K m (also m mt) rest
-      → nextOf (allFrom K n mt) (i ∷ rest) ≡ orLater (behind i (nextOf (allFrom K m (also m mt)) rest)) (leastTry K n mt (suc i))
+  next-step : (n i m : ℕ) (met : ℕ → Bool) (rest : List ℕ) → ¬ (n ≡ G .goal) → i < G .links → G .far i n ≡ some m → met m ≡ false
+      → nextOf (allFrom G n met) (i ∷ rest) ≡ orLater (behind i (nextOf (allFrom G m (also m met)) rest)) (leastTry G n met (suc i))
   unfolding orLater behind
-  later-step n i m mt rest ne l e f same = go (isRoute K m (also m mt) rest) refl
+  next-step n i m met rest ne l e f = go (isRoute G m (also m met) rest) refl
     where
-      go : (b : Bool) → isRoute K m (also m mt) rest ≡ b
-          → nextOf (allFrom K n mt) (i ∷ rest) ≡ orLater (behind i (nextOf (allFrom K m (also m mt)) rest)) (leastTry K n mt (suc i))
-      go true h = next-on K (sound ends ways links to) n i m mt rest ne l e f (isRoute-yes K m (also m mt) rest h)
-      go false h = not-route n mt (i ∷ rest) (same ∙ h) ∙ sym (ap (λ a. orLater (behind i a) (leastTry K n mt (suc i))) (not-route m (also m mt) rest h))
+      same-end : (g : ℕ) → G .far i n ≡ some g → g ≡ m
+      same-end g q = cc
 
-  module _ (r : List ℕ) (d : ℕ) (met : List Bool) (n : ℕ) where
-    -- what follows r, whose first d links led to the node n
-    abbrev pub after : Finding
-    after = nextOf (allFrom (net ends ways links to) n (metOf met)) (drop d r)
+      strip : IsRoute G n met (i ∷ rest) → IsRoute G m (also m met) rest
+      strip (passed {f = g} ne l q k p) = subst (λ (z : ℕ). IsRoute G z (also z met) rest) (same-end g q) p
 
-    -- its end is the goal; or it ends elsewhere, or goes on from the goal; or its next link does not lead on
-    pub later-end : (leb (length r) d && eqb n to) ≡ true → after ≡ noMore
-    unfolding firstOf
-    later-end e =
-        let h = leb-true (length r) d (and-left _ _ e) in
-        let q = eqb-true n to (and-right (leb (length r) d) _ e) in
-        rw (drop-of-length-le r h, all-here K n (metOf met) q) (next-found [] [] [] refl)
+      go : (b : Bool) → isRoute G m (also m met) rest ≡ b
+          → nextOf (allFrom G n met) (i ∷ rest) ≡ orLater (behind i (nextOf (allFrom G m (also m met)) rest)) (leastTry G n met (suc i))
+      go true h = next-on G sound n i m met rest ne l e f (isRoute-yes G m (also m met) rest h)
+      go false h =
+          no-route n met (i ∷ rest) (λ p. both-ways (isRoute-of G (strip p)) h)
+          ∙ sym (ap (λ a. orLater (behind i a) (leastTry G n met (suc i))) (no-route m (also m met) rest (λ p. both-ways (isRoute-of G p) h)))
 
-    pub later-stray : (leb (length r) d && eqb n to) ≡ false → (leb (length r) d || eqb n to) ≡ true → after ≡ noRoute
-    later-stray e o = go (leb (length r) d) refl (eqb n to) refl e o
+-- ---- over the table: r, whose first d links led to the node f
+
+module _ (t : List ℕ) (f gone d : ℕ) (S : Standing t f gone d) (r : List ℕ) where
+  abbrev over : Bool
+  over = leb (length r) d
+
+  abbrev here : Bool
+  here = eqb f (getD t 80 0)
+
+  sound : Sound (netOf t)
+  sound = table-sound t (S .table)
+
+  -- its end is the goal; or it ends elsewhere, or goes on from the goal
+  pub later-end : (over && here) ≡ true → nextOf (routesOn t f gone) (drop d r) ≡ noMore
+  unfolding firstOf routesOn netOf
+  later-end e =
+      let h = leb-true (length r) d (and-left over here e) in
+      let q = eqb-true f (getD t 80 0) (and-right over here e) in
+      rw (drop-of-length-le r h, all-here (netOf t) f (also f (metOf gone)) q) (next-found [] [] [] refl)
+
+  pub later-stray : (over && here) ≡ false → (over || here) ≡ true → nextOf (routesOn t f gone) (drop d r) ≡ noRoute
+  unfolding routesOn netOf
+  later-stray e o = go over refl here refl e o
+    where
+      ended : (s : List ℕ) → s ≡ [] → (f ≡ getD t 80 0 → ⊥) → IsRoute (netOf t) f (also f (metOf gone)) s → ⊥
+      ended s e ne (arrived q) = ne q
+      ended s e ne (passed ne′ l q k p) = never (cc)
+
+      begun : (s : List ℕ) (i : ℕ) (s′ : List ℕ) → s ≡ i ∷ s′ → f ≡ getD t 80 0 → IsRoute (netOf t) f (also f (metOf gone)) s → ⊥
+      begun s i s′ e q (arrived q′) = never (cc)
+      begun s i s′ e q (passed ne l q′ k p) = ne q
+
+      go : (x : Bool) → over ≡ x → (y : Bool) → here ≡ y → (x && y) ≡ false → (x || y) ≡ true → nextOf (allFrom (netOf t) f (also f (metOf gone))) (drop d r) ≡ noRoute
+      go true p true q e o = absurd (both-ways refl e)
+      go true p false q e o =
+          no-route (netOf t) sound f (also f (metOf gone)) (drop d r) (ended (drop d r) (drop-of-length-le r (leb-true (length r) d p)) (eqb-false f (getD t 80 0) q))
+      go false p true q e o =
+          no-route (netOf t) sound f (also f (metOf gone)) (drop d r)
+          (begun (drop d r) (getD r d 0) (drop (suc d) r) (drop-cons r d 0 (leb-false (length r) d p)) (eqb-true f (getD t 80 0) q))
+      go false p false q e o = absurd (both-ways o refl)
+
+  module _ (goes : (over || here) ≡ false) where
+    pub more : d < length r
+    more = leb-false (length r) d (or-no-left over here goes)
+
+    elsewhere : ¬ (f ≡ getD t 80 0)
+    elsewhere = eqb-false f (getD t 80 0) (or-no-right over here goes)
+
+    abbrev i : ℕ
+    i = getD r d 0
+
+    abbrev then : ℕ
+    then = goneAfter t gone f
+
+    -- its next link does not lead on
+    pub later-off : has (linksOn t gone f) i ≡ false → nextOf (routesOn t f gone) (drop d r) ≡ noRoute
+    unfolding routesOn
+    later-off e =
+        rw (drop-cons r d 0 more)
+        (no-route (netOf t) sound f (also f (metOf gone)) (i ∷ drop (suc d) r)
+        (λ p. both-ways (opened t f gone d S .keeps i (drop (suc d) r) (omega arith) (subst (λ m. IsRoute (netOf t) f m (i ∷ drop (suc d) r)) (sym (met-after t f gone d S)) p)) e))
+
+    pub later-past : 48 ≤ i → nextOf (routesOn t f gone) (drop d r) ≡ noRoute
+    later-past h = later-off (no-true (λ e. let w = opened t f gone d S .opens i e in let k = S .table .leads i f (w .0) (w .1 .0) .kept .place in omega arith))
+
+    -- all that is needed where it does, and these links are tried after it
+    pub record Along (links : ℕ) : Type 0 where
+      pub back : f ≤ getD t (32 + getD r d 0) 0
+      pub stands : Standing t (getD t (32 + getD r d 0) 0 - f) (goneAfter t gone f) (d + 1)
+      pub chooses : Choosing t f (goneAfter t gone f) links d
+      pub says : nextOf (routesOn t f gone) (drop d r)
+          ≡ orLater (behind (getD r d 0) (nextOf (routesOn t (getD t (32 + getD r d 0) 0 - f) (goneAfter t gone f)) (drop (d + 1) r))) (firstOf (routesBy t f (goneAfter t gone f) links))
+
+    pub along-by : (links : ℕ) → Covers (netOf t) links f (metOf (goneAfter t gone f)) (i + 1) → links < 2 ^ 48 → has (linksOn t gone f) i ≡ true → Along links
+    unfolding leastTry routesOn netOf
+    along-by links C l e =
+        let w = opened t f gone d S .opens i e in
+        let g = w .0 in
+        let k = S .table .leads i f g (w .1 .0) .kept in
+        let s = k .sum in
+        let p : i < 48 = k .place in
+        let z : getD t (32 + i) 0 - f ≡ g = omega arith in
+        let F = fewer t f gone d S in
+        let D = S .depth in
+        let L = left t f gone d S links (i + 1) (omega arith) C l in
+        record {
+          back = omega arith;
+          stands = subst (λ (x : ℕ). Standing t x then (d + 1)) (sym z)
+              (record { table = S .table; node = k .far; fresh = w .1 .1; known = gone-known t f gone d S; depth = omega arith });
+          chooses = L .chooses;
+          says = said g p (w .1 .0) (w .1 .1) z (L .says elsewhere);
+        }
       where
-        go : (x : Bool) → leb (length r) d ≡ x → (y : Bool) → eqb n to ≡ y → (x && y) ≡ false → (x || y) ≡ true → after ≡ noRoute
-        go true p true q e o = absurd (both-ways refl e)
-        go true p false q e o = not-route n (metOf met) (drop d r) (route-end ends ways links to r d met n (leb-true (length r) d p) ∙ q)
-        go false p true q e o = not-route n (metOf met) (drop d r) (route-arrived ends ways links to r d met n (leb-false (length r) d p) (eqb-true n to q))
-        go false p false q e o = absurd (both-ways o refl)
+        said : (g : ℕ) → i < 48 → netOf t .far i f ≡ some g → metOf then g ≡ false → getD t (32 + i) 0 - f ≡ g
+            → tries (netOf t) (λ n. routesOn t n then) f (metOf then) (linksFrom (netOf t) (i + 1)) ≡ routesBy t f then links
+            → nextOf (routesOn t f gone) (drop d r) ≡ orLater (behind i (nextOf (routesOn t (getD t (32 + i) 0 - f) then) (drop (d + 1) r))) (firstOf (routesBy t f then links))
+        said g p far fresh z same =
+            ap₂ (λ m l. nextOf (allFrom (netOf t) f m) l) (sym (met-after t f gone d S)) (drop-cons r d 0 more)
+            ∙ next-step (netOf t) sound f i g (metOf then) (drop (suc d) r) elsewhere p far fresh
+            ∙ ap (λ (n : ℕ). orLater (behind i (nextOf (routesOn t g then) (drop (suc d) r))) (leastTry (netOf t) f (metOf then) n)) (sym (add-one i))
+            ∙ ap₂ (λ (n x : ℕ). orLater (behind i (nextOf (routesOn t x then) (drop n r))) (leastTry (netOf t) f (metOf then) (i + 1))) (sym (add-one d)) (sym z)
+            ∙ ap (λ l. orLater (behind i (nextOf (routesOn t (getD t (32 + i) 0 - f) then) (drop (d + 1) r))) (firstOf l)) same
 
-    module _ (goes : (leb (length r) d || eqb n to) ≡ false) where
-      pub more : d < length r
-      more = leb-false (length r) d (or-no-left (leb (length r) d) (eqb n to) goes)
-
-      on : n ≡ to → ⊥
-      on = eqb-false n to (or-no-right (leb (length r) d) (eqb n to) goes)
-
-      pub later-off : openOf ends ways links met (getD r d 0) n ≡ None → after ≡ noRoute
-      later-off f = not-route n (metOf met) (drop d r) (route-off ends ways links to r d met n more on f)
-
-      pub record Later (m : ℕ) : Type 0 where
-        pub fewer : suc (unmet 16 (metOf (set met m true))) ≡ unmet 16 (metOf met)
-        pub says : nextOf (allFrom (net ends ways links to) n (metOf met)) (drop d r)
-            ≡ orLater (behind (getD r d 0) (nextOf (allFrom (net ends ways links to) m (metOf (set met m true))) (drop (d + 1) r))) (leastTry (net ends ways links to) n (metOf met) (getD r d 0 + 1))
-
-      pub later-on : (m : ℕ) → m < length met → openOf ends ways links met (getD r d 0) n ≡ Node m → Later m
-      later-on m lt f =
-          let i = getD r d 0 in
-          let q = if-open met (farNode ends ways links i n) m f in
-          let same : isRoute K n (metOf met) (i ∷ drop (suc d) r) ≡ isRoute K m (also m (metOf met)) (drop (suc d) r) =
-          rw (← drop-cons r d 0 more, ← met-set met m lt, ← add-one d) (route-on ends ways links to r d met n m more on lt f) in
-          let s = later-step n i m (metOf met) (drop (suc d) r) on (far-inside ends ways links i n m (q .0)) (ap nodeOf (q .0)) (q .1) same in
-          record {
-            fewer = open-mark ends ways links met i n m lt f;
-            says = rw (drop-cons r d 0 more, met-set met m lt, add-one d, add-one i) s;
-          }
+    -- all its later links
+    pub along : has (linksOn t gone f) i ≡ true → Along (bitXor (linksOn t gone f) (bitAnd (linksOn t gone f) (2 ^ (getD r d 0 + 1) - 1)))
+    along e =
+        along-by (bitXor (linksOn t gone f) (bitAnd (linksOn t gone f) (2 ^ (i + 1) - 1)))
+        (later-cover (netOf t) (linksOn t gone f) f (metOf then) (i + 1) (opened t f gone d S))
+        (without-small 48 (linksOn t gone f) (2 ^ (i + 1) - 1) (links-small t f gone d S)) e

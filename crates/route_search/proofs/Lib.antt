@@ -1,4 +1,3 @@
-pub mod Leading
 pub mod Finding
 pub mod Following
 pub mod Telling

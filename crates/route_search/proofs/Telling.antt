@@ -1,6 +1,5 @@
 -- What first and next answer: each refusal in its turn, and a route that was found is the one that the list of all routes has.
 use mathlib.Core.Path.{_≡_, refl, sym, ap, _∙_}
-use mathlib.Core.Bool.{Bool}
 use mathlib.Core.List.{List}
 use Prim.Native.Nat.{ℕ, zero, suc, _-_, _<_, _≤_}
 use native.Mathlib.Nat.{zero-add}
@@ -9,14 +8,17 @@ use lib.ListN.{length, take}
 use lib.Seq.{sets, take-append-seam}
 use Rattle.lists.specs.Refusals.{unlessRefused}
 use Rattle.lists.proofs.Refusals.{taken, refused}
-use Rattle.route.specs.All.{allFrom, allRoutes, Finding, route, noMore, noRoute, firstOf, nextOf}
-use Rattle.route.specs.Contracts.{leastFrom}
+use Rattle.route.specs.All.{Finding, route, noMore, noRoute, firstOf, nextOf}
+use Rattle.route_links.specs.Arrays.{net}
+use Rattle.route_links.specs.ByNode.{ByNode}
+use Rattle.route_links.specs.Contracts.{routesOn, Standing}
+use Rattle.route_links.proofs.Standing.{start-standing, start-routes}
+use Rattle.route_links.proofs.Table.{table-holds}
 use Rattle.route_search.specs.declared.Traced.{Traced}
 use Rattle.route_search.specs.declared.Traced.the-variants.{Route, Refused}
 use Rattle.route_search.specs.declared.Found.{Found}
 use Rattle.route_search.specs.Answers.{tracedRefusal, tracedLength, findingRefusal, findingRoute, Told, told, firstRefusal, nextRefusal, firstRoute, nextRoute}
-use Rattle.route_search.specs.Contracts.{net, metOf, onlyMet, placesRefusal, routesOver, firstRefusalOver, nextRefusalOver, firstOver, nextOver, zeros, foundAt, handedOver}
-use Rattle.route_search.proofs.Leading.{only-flags}
+use Rattle.route_search.specs.Contracts.{placesRefusal, routesOver, firstRefusalOver, nextRefusalOver, firstOver, nextOver, zeros, foundAt, handedOver}
 
 -- ---- an answer's parts
 
@@ -153,14 +155,13 @@ module _ (ends : List (List ℕ)) (ways : List ℕ) (links from to : ℕ) where
     unfolding nextRefusalOver
     next-numbered buf n = rw (places-right links from few inside)
 
-    -- the search begins with the first node met
-    pub all-join : (met : List Bool) → met ≡ onlyMet from → allFrom (net ends ways links to) from (metOf met) ≡ rs
-    unfolding routesOver allRoutes
-    all-join met e = ap (allFrom (net ends ways links to) from) (ap metOf e ∙ only-flags from inside)
+    -- the search begins at the first node, with none met
+    pub all-join : (t : List ℕ) → ByNode (net ends ways links to) t → routesOn t from 0 ≡ rs
+    unfolding routesOver
+    all-join t T = start-routes t from ∙ table-holds ends ways links to t T .same from inside
 
-    pub first-join : (met : List Bool) → met ≡ onlyMet from → leastFrom (net ends ways links to) from (metOf met) ≡ firstOf rs
-    unfolding leastFrom
-    first-join met e = ap firstOf (all-join met e)
+    pub begins : (t : List ℕ) → ByNode (net ends ways links to) t → Standing t from 0 0
+    begins t T = start-standing t from (table-holds ends ways links to t T .walkable) inside
 
     pub first-small : (buf : List ℕ) → length buf < 15 → FirstGives buf (refusedTold 42 buf)
     first-small buf h = first-refuses 41 buf (first-numbered buf ∙ first-short rs buf h)

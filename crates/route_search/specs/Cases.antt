@@ -1,4 +1,4 @@
--- What is told of a finding, and where links lead, by example.
+-- What is told of a finding, and routes by links of each way, by example.
 use Prim.Native.Nat.{ℕ}
 use mathlib.Core.Path.{_≡_, refl}
 use mathlib.Core.List.{List, [], _∷_}
@@ -6,19 +6,14 @@ use lib.ListN.{replicate}
 use Rattle.lists.specs.Refusals.{unlessRefused}
 use Rattle.route.specs.Route.{also, only}
 use Rattle.route.specs.All.{upFrom, linksFrom, over, tries, routes, unmet, allFrom, allRoutes, route, noMore, noRoute, firstOf, sameLinks, nextOf}
-use Rattle.route_search.specs.declared.Far.{Far}
-use Rattle.route_search.specs.declared.Far.the-variants.{Node, None}
+use Rattle.route_links.specs.Arrays.{nodePlace, isOut, isBack, otherEnd, farNode}
 use Rattle.route_search.specs.declared.Traced.the-variants.{Route, Refused}
 use Rattle.route_search.specs.Answers.{tracedRefusal, tracedLength, findingRefusal, findingRoute, told, firstRefusal, nextRefusal, firstRoute, nextRoute}
-use Rattle.route_search.specs.Contracts.{nodePlace, isOut, isBack, otherEnd, farNode, routesOver}
+use Rattle.route_search.specs.Contracts.{routesOver}
 
 -- two routes, 0 2 and 1
 abbrev pub two : List (List ℕ)
 two = (0 ∷ 2 ∷ []) ∷ (1 ∷ []) ∷ []
-
--- the other end of the link from node 3 to node 5, passed in a way
-abbrev pub between : ℕ → ℕ → Far
-between way n = otherEnd (3 ∷ 5 ∷ []) way n
 
 -- a ring passed one way only: 0 to 1 by a link out, 1 to 2 by a link back, 2 to 0 by a link out
 abbrev pub ring : ℕ → ℕ → List (List ℕ)
@@ -39,15 +34,7 @@ pub record Cases : Type 0 where
   -- 42 before 41, and 41 for a length above 15
   pub short : (firstRefusal two (replicate 14 7) ≡ 42) × (nextRefusal two (replicate 14 7) 16 ≡ 42)
   pub too-long : nextRefusal two (replicate 16 7) 16 ≡ 41
-  -- a link of each way, from both of its ends; 0 and what is no way are not passed
-  pub off : (between 0 3 ≡ None) × (between 0 5 ≡ None)
-  pub both : (between 1 3 ≡ Node 5) × (between 1 5 ≡ Node 3)
-  pub out : (between 2 3 ≡ Node 5) × (between 2 5 ≡ None)
-  pub back : (between 3 3 ≡ None) × (between 3 5 ≡ Node 3)
-  pub no-way : (between 4 3 ≡ None) × (between 4 5 ≡ None)
-  -- it has no end at another node, and one at place 16 is at none
-  pub elsewhere : between 1 4 ≡ None
-  pub nowhere : otherEnd (3 ∷ 16 ∷ []) 1 3 ≡ None
+  -- a ring is passed one way round
   pub round : (ring 0 2 ≡ (0 ∷ 1 ∷ []) ∷ []) × (ring 2 0 ≡ (2 ∷ []) ∷ [])
 
 pub cases : Cases
@@ -65,12 +52,5 @@ cases =
       no-route = refl;
       short = (refl, refl);
       too-long = refl;
-      off = (refl, refl);
-      both = (refl, refl);
-      out = (refl, refl);
-      back = (refl, refl);
-      no-way = (refl, refl);
-      elsewhere = refl;
-      nowhere = refl;
       round = (refl, refl);
     }

@@ -1,64 +1,17 @@
--- The search over what the trace keeps by value (document 01, "Routes and their order"): the two ends of each link as node places, the passage of each link (0 none,
--- 1 both ways, 2 out, 3 back), and one flag for each node met; and the steps of the search.
-use Prim.Native.Nat.{ℕ, zero, suc, _+_, _-_}
-use mathlib.Core.Bool.{Bool, true, false, _&&_, _||_, cond}
-use mathlib.Core.Option.{Option, none, some}
-use mathlib.Core.List.{List, [], _++_}
-use lib.ListN.{length, getD, set, take, replicate}
+-- First and next over what the trace keeps by value (document 01, "Routes and their order"): the two ends of each link as node places, and the passage of each
+-- link (0 none, 1 both ways, 2 out, 3 back); and what was found on the way.
+use Prim.Native.Nat.{ℕ, _+_, _-_}
+use mathlib.Core.List.{List, _++_}
+use lib.ListN.{length, take, replicate}
 use lib.Seq.{sets}
-use lib.Dec.{eqb, ltb, leb}
+use lib.Dec.{ltb, leb}
 use Rattle.lists.specs.Refusals.{refuse, orElse, unlessRefused}
 use Rattle.chart.specs.Values.{mostNodes, mostLinks}
-use Rattle.route.specs.Route.{Net}
 use Rattle.route.specs.All.{allRoutes, Finding, route, noMore, noRoute}
+use Rattle.route_links.specs.Arrays.{net}
 use Rattle.route_search.specs.declared.Traced.the-variants.{Route, Refused}
-use Rattle.route_search.specs.declared.Far.{Far}
-use Rattle.route_search.specs.declared.Far.the-variants.{Node, None}
-use Rattle.route_search.specs.declared.Step.{Step}
-use Rattle.route_search.specs.declared.Step.the-variants.{By, End}
 use Rattle.route_search.specs.declared.Found.{Found}
 use Rattle.route_search.specs.Answers.{longestRoute, Told, told, firstRefusal, nextRefusal, firstRoute, nextRoute}
-
--- ---- the arrays as a net
-
--- the node at a place, if it is a node's place
-unfoldable pub nodePlace : ℕ → Far
-nodePlace n = cond (ltb n mostNodes) (Node n) None
-
--- the ways of which a link is passed from its first end to its second, and from its second to its first
-unfoldable pub isOut : ℕ → Bool
-isOut way = eqb way 1 || eqb way 2
-
-unfoldable pub isBack : ℕ → Bool
-isBack way = eqb way 1 || eqb way 3
-
--- the other end of a link from the node n
-unfoldable pub otherEnd : List ℕ → ℕ → ℕ → Far
-otherEnd e way n =
-    cond (isOut way && eqb (getD e 0 0) n) (nodePlace (getD e 1 0))
-    (cond (isBack way && eqb (getD e 1 0) n) (nodePlace (getD e 0 0))
-    None)
-
--- the far end of link i from the node n, if there is such a link
-unfoldable pub farNode : List (List ℕ) → List ℕ → ℕ → ℕ → ℕ → Far
-farNode ends ways links i n = cond (ltb i links) (otherEnd (getD ends i []) (getD ways i 0) n) None
-
--- a far end as the theory has it
-abbrev pub nodeOf : Far → Option ℕ
-nodeOf (Node m) = some m
-nodeOf None = none
-
--- the net of the arrays
-abbrev pub net : List (List ℕ) → List ℕ → ℕ → ℕ → Net
-net ends ways links to = record { nodes = mostNodes; links = links; far = λ i a. nodeOf (farNode ends ways links i a); goal = to }
-
--- the test that the flags are
-abbrev pub metOf : List Bool → ℕ → Bool
-metOf flags n = getD flags n false
-
--- no node met but a
-abbrev pub onlyMet : ℕ → List Bool
-onlyMet a = set (replicate mostNodes false) a true
 
 -- ---- first and next over the arrays
 
@@ -83,26 +36,7 @@ module _ (ends : List (List ℕ)) (ways : List ℕ) (links from to : ℕ) where
   unfoldable pub nextOver : List ℕ → ℕ → Told
   nextOver buf n = told (nextRefusalOver buf n) (nextRoute routesOver buf n) buf
 
--- ---- the steps
-
--- a far end counts only if its node is not met
-abbrev pub ifOpen : List Bool → Far → Far
-ifOpen met (Node n) = cond (getD met n false) None (Node n)
-ifOpen met None = None
-
--- the far end of link i from the node n, if it is not met
-abbrev pub openOf : List (List ℕ) → List ℕ → ℕ → List Bool → ℕ → ℕ → Far
-openOf ends ways links met i n = ifOpen met (farNode ends ways links i n)
-
--- link i if it leads on, else a later one
-abbrev pub orStep : ℕ → Far → Step → Step
-orStep i (Node m) w = By i m
-orStep i None w = w
-
--- the first of the k links from place i on that leads from the node n to one not met
-unfoldable pub stepFrom : (ℕ → ℕ → Far) → List Bool → ℕ → ℕ → ℕ → Step
-stepFrom step met n i zero = End
-stepFrom step met n i (suc k) = orStep i (ifOpen met (step i n)) (stepFrom step met n (suc i) k)
+-- ---- what was found
 
 -- n zeros
 abbrev pub zeros : ℕ → List ℕ

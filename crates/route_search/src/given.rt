@@ -1,60 +1,62 @@
 // The least route after a given one.
 use crate::Found;
-use crate::Step;
-use crate::ends::step_from;
 use crate::walking::nothing;
 use crate::walking::try_links;
+use chart::MOST_LINKS;
+use route_links::GOAL;
+use route_links::OUT_ROW;
+use route_links::SUM_ROW;
 ghost use mathlib.Core.Path.{_≡_};
-ghost use Prim.Native.Nat.{_+_, _≤_};
+ghost use Prim.Native.Nat.{_+_, _-_, _^_, _<_};
+ghost use lib.Bits.{bitAnd, bitXor};
 ghost use lib.ListN.{drop};
-ghost use Rattle.route.specs.All.{unmet, allFrom, nextOf};
-ghost use Rattle.route_search.specs.Contracts.{metOf, net, foundAt};
-ghost use Rattle.chart.specs.Values.{mostLinks, mostNodes};
-ghost use Rattle.route_search.specs.Answers.{longestRoute};
+ghost use Rattle.chart.specs.Values.{mostLinks};
+ghost use Rattle.route.specs.All.{nextOf};
+ghost use Rattle.route_links.specs.Contracts.{routesOn, Standing};
+ghost use Rattle.route_search.specs.Contracts.{foundAt};
 
-// The least route after r that shares its first d links: 43 where there is none, 41 where r is no route from its place d on.
-pub fn later(
-    ends: [[u8; 2]; 48],
-    ways: [u8; 48],
-    links: usize,
-    to: u8,
-    r: &[u8],
-    at: u8,
-    met: [bool; 16],
-    d: usize,
-) -> Found
-    requires { ⌜ links ≤ mostLinks ⌝ ∗ ⌜ d + unmet mostNodes (metOf met) ≤ longestRoute ⌝ }
-    ensures { λ f. ⌜ f ≡ foundAt d (nextOf (allFrom (net ends ways links to) at (metOf met)) (drop d (now (r .entry)))) ⌝ }
+// Of these links those after place i.
+fn after(links: u64, i: u64) -> u64
+    requires { ⌜ i < mostLinks ⌝ }
+    ensures { λ r. ⌜ r ≡ bitXor links (bitAnd links (2 ^ (i + 1) - 1)) ⌝ }
+{
+    let low = (1u64 << (i + 1)) - 1;
+    links ^ (links & low)
+}
+
+// The least route on from the node f after r, whose first d links led there: 43 where there is none, 41 where r is no route from its place d on.
+pub fn later(t: &[u64; 81], r: &[u8], f: u64, gone: u64, d: usize) -> Found
+    requires { ⌜ Standing (now t) f gone d ⌝ }
+    ensures { λ w. ⌜ w ≡ foundAt d (nextOf (routesOn (now (t .entry)) f gone) (drop d (now (r .entry)))) ⌝ }
 {
     let over = r.len() <= d;
-    let here = at == to;
+    let here = f == t[GOAL];
     if over & here {
         return nothing(43);
     }
     if over | here {
         return nothing(41);
     }
-    // Link i leads on if it is the first one from its own place on that does.
     let b = r[d];
-    let i = b as usize;
-    let w = step_from(ends, ways, links, at, met, i);
-    let Step::By(k, n) = w else {
-        return nothing(41);
-    };
-    if k != i {
+    if MOST_LINKS <= b {
         return nothing(41);
     }
-    let m = n as usize;
-    let mut then = met;
-    then[m] = true;
-    let mut f = later(ends, ways, links, to, r, n, then, d + 1);
-    let refusal = f.refusal;
+    let i = b as u64;
+    let k = f as usize;
+    let out = t[OUT_ROW + k];
+    let links = out ^ (out & gone);
+    if (links >> i) % 2 != 1 {
+        return nothing(41);
+    }
+    let then = gone | t[k] | (1u64 << (48 + f));
+    let mut w = later(t, r, t[SUM_ROW + i as usize] - f, then, d + 1);
+    let refusal = w.refusal;
     if refusal == 41 {
-        return f;
+        return w;
     }
     if refusal == 43 {
-        return try_links(ends, ways, links, to, at, met, i + 1, d);
+        return try_links(t, f, then, after(links, i), d);
     }
-    f.route[d] = b;
-    f
+    w.route[d] = b;
+    w
 }

@@ -1,18 +1,17 @@
 // The search for routes over what the trace keeps by value (document 01, "Routes and their order"): the two ends of each link as node places,
-// the way each link is passed, and the nodes met. It knows no chart: any arrays get an answer.
+// and the way each link is passed. It goes by the links of a node, which are kept beside it. It knows no chart: any arrays get an answer.
 use chart::MOST_LINKS;
 use chart::MOST_NODES;
 use given::later;
+use route_links::links_by_node;
 use walking::walk_on;
 ghost use mathlib.Core.Path.{_≡_};
-ghost use Prim.Native.Nat.{_≤_, _<_};
+ghost use Prim.Native.Nat.{_≤_};
 ghost use lib.ListN.{length};
 ghost use Rattle.lists.specs.Refusals.{unlessRefused};
 ghost use Rattle.route_search.specs.Answers.{longestRoute, tracedRefusal, tracedLength, firstRoute, nextRoute};
-ghost use Rattle.route_search.specs.Contracts.{onlyMet, handedOver, firstOver, nextOver, firstRefusalOver, nextRefusalOver, routesOver};
-ghost use Rattle.chart.specs.Values.{mostNodes};
+ghost use Rattle.route_search.specs.Contracts.{handedOver, firstOver, nextOver, firstRefusalOver, nextRefusalOver, routesOver};
 
-mod ends;
 mod given;
 mod walking;
 
@@ -24,34 +23,11 @@ pub enum Traced {
     Refused(u8),
 }
 
-// The node at a link's other end, or none.
-pub enum Far {
-    Node(u8),
-    None,
-}
-
-// A link that leads on and the node at its far end, or none.
-pub enum Step {
-    By(usize, u8),
-    End,
-}
-
 // A route, of which the links from some place on are filled in, with its whole length and the number 0; or the number of a refusal.
 pub struct Found {
     pub refusal: u8,
     pub len: usize,
     pub route: [u8; 15],
-}
-
-// No node met but the one at place a.
-fn only_met(a: u8) -> [bool; 16]
-    requires { ⌜ a < mostNodes ⌝ }
-    ensures { λ m. ⌜ m ≡ onlyMet a ⌝ }
-{
-    let k = a as usize;
-    let mut met = [false; 16];
-    met[k] = true;
-    met
 }
 
 // Writes the route that was found, if one was.
@@ -91,8 +67,8 @@ pub fn first_route(
     if buf.len() < LONGEST_ROUTE {
         return Traced::Refused(42);
     }
-    let met = only_met(from);
-    let f = walk_on(ends, ways, links, to, from, met, 0);
+    let t = links_by_node(ends, ways, links, to);
+    let f = walk_on(&t, from as u64, 0, 0);
     hand_over(f, buf)
 }
 
@@ -123,8 +99,8 @@ pub fn next_route(
     if LONGEST_ROUTE < given {
         return Traced::Refused(41);
     }
-    let met = only_met(from);
     let r = &buf[..given];
-    let f = later(ends, ways, links, to, r, from, met, 0);
+    let t = links_by_node(ends, ways, links, to);
+    let f = later(&t, r, from as u64, 0, 0);
     hand_over(f, buf)
 }

@@ -1,15 +1,13 @@
 // The two steps that call on each other: trying the links of a node, and walking on from a link's far end. With each node met fewer are left,
 // and with each link tried too.
 use crate::Found;
-use crate::Step;
-use crate::ends::step_from;
+use route_links::GOAL;
+use route_links::OUT_ROW;
+use route_links::SUM_ROW;
 ghost use mathlib.Core.Path.{_≡_};
-ghost use Prim.Native.Nat.{_+_, _≤_};
-ghost use Rattle.route.specs.All.{unmet};
-ghost use Rattle.route.specs.Contracts.{leastTry, leastFrom};
-ghost use Rattle.route_search.specs.Contracts.{metOf, net, notFound, foundAt};
-ghost use Rattle.chart.specs.Values.{mostLinks, mostNodes};
-ghost use Rattle.route_search.specs.Answers.{longestRoute};
+ghost use Rattle.route.specs.All.{firstOf};
+ghost use Rattle.route_links.specs.Contracts.{routesOn, routesBy, Standing, Choosing};
+ghost use Rattle.route_search.specs.Contracts.{notFound, foundAt};
 
 // Nothing found, and why.
 pub fn nothing(refusal: u8) -> Found
@@ -22,54 +20,38 @@ pub fn nothing(refusal: u8) -> Found
     }
 }
 
-// The least route on from the node at by a link at place i or later; d links come before it.
-pub fn try_links(
-    ends: [[u8; 2]; 48],
-    ways: [u8; 48],
-    links: usize,
-    to: u8,
-    at: u8,
-    met: [bool; 16],
-    i: usize,
-    d: usize,
-) -> Found
-    requires { ⌜ links ≤ mostLinks ⌝ ∗ ⌜ d + unmet mostNodes (metOf met) ≤ longestRoute ⌝ }
-    ensures { λ r. ⌜ r ≡ foundAt d (leastTry (net ends ways links to) at (metOf met) i) ⌝ }
+// The least route on from the node at by one of these links; d links come before it.
+pub fn try_links(t: &[u64; 81], at: u64, gone: u64, links: u64, d: usize) -> Found
+    requires { ⌜ Choosing (now t) at gone links d ⌝ }
+    ensures { λ r. ⌜ r ≡ foundAt d (firstOf (routesBy (now (t .entry)) at gone links)) ⌝ }
 {
-    let w = step_from(ends, ways, links, at, met, i);
-    let Step::By(k, n) = w else {
-        return nothing(43);
-    };
-    let m = n as usize;
-    let mut then = met;
-    then[m] = true;
-    let mut f = walk_on(ends, ways, links, to, n, then, d + 1);
-    if f.refusal == 43 {
-        return try_links(ends, ways, links, to, at, met, k + 1, d);
+    let mut left = links;
+    while left != 0 {
+        let i = u64::trailing_zeros(left);
+        let mut f = walk_on(t, t[SUM_ROW + i as usize] - at, gone, d + 1);
+        if f.refusal != 43 {
+            f.route[d] = i as u8;
+            return f;
+        }
+        left = left ^ (1u64 << i);
     }
-    f.route[d] = k as u8;
-    f
+    nothing(43)
 }
 
-// The least route on from the node at, which is marked met; d links come before it.
-pub fn walk_on(
-    ends: [[u8; 2]; 48],
-    ways: [u8; 48],
-    links: usize,
-    to: u8,
-    at: u8,
-    met: [bool; 16],
-    d: usize,
-) -> Found
-    requires { ⌜ links ≤ mostLinks ⌝ ∗ ⌜ d + unmet mostNodes (metOf met) ≤ longestRoute ⌝ }
-    ensures { λ r. ⌜ r ≡ foundAt d (leastFrom (net ends ways links to) at (metOf met)) ⌝ }
+// The least route on from the node f, which is not met yet; d links come before it.
+pub fn walk_on(t: &[u64; 81], f: u64, gone: u64, d: usize) -> Found
+    requires { ⌜ Standing (now t) f gone d ⌝ }
+    ensures { λ r. ⌜ r ≡ foundAt d (firstOf (routesOn (now (t .entry)) f gone)) ⌝ }
 {
-    if at == to {
+    if f == t[GOAL] {
         return Found {
             refusal: 0,
             len: d,
             route: [0u8; 15],
         };
     }
-    try_links(ends, ways, links, to, at, met, 0, d)
+    let k = f as usize;
+    let links = t[OUT_ROW + k];
+    let then = gone | t[k] | (1u64 << (48 + f));
+    try_links(t, f, then, links ^ (links & gone), d)
 }

@@ -2,18 +2,16 @@
 use Prim.Native.Nat.{ℕ, _<_, _≤_}
 use mathlib.Core.Path.{_≡_, refl, sym, ap, subst, _∙_}
 use mathlib.Core.Bool.{Bool, true, false}
+use mathlib.Core.Option.{Option, none, some}
 use mathlib.Core.List.{List, [], _∷_, List·Memᴰ, List·Memᴰ·head, List·Memᴰ·tail}
 use native.Mathlib.Omega.{arith}
 use native.Mathlib.Decide.{decLt}
+use borrow.Author.Tests.{ltb-true, ltb-false, lt-ltb, le-ltb, ne-eqb}
 use lib.ListN.{length, take, drop}
 use lib.Seq.{sets, length-sets, drop-at}
 use lib.Dec.{ltb}
-use borrow.Author.Tests.{ltb-true, ltb-false, lt-ltb}
 use Rattle.lists.specs.Refusals.{among, unlessRefused}
 use Rattle.lists.proofs.Stores.{sets-front, taken-front}
-use Rattle.chart.specs.declared.Chart.{Chart}
-use Rattle.chart_refuse.specs.Refusal.{chartRefusal}
-use Rattle.chart_refuse.proofs.Accepted.{accepted}
 use Rattle.route.specs.Route.{only}
 use Rattle.route.specs.All.{allRoutes, Finding, route, noMore, noRoute, firstOf, sameLinks, nextOf}
 use Rattle.route.specs.Promises.{Gives}
@@ -22,14 +20,24 @@ use Rattle.route.proofs.Promises.{short-routes}
 use Rattle.route.proofs.Next.{next-absent, gives-all}
 use Rattle.route.proofs.Order.{all-increasing, all-once}
 use Rattle.route.proofs.Laws.{all-are, all-here, all-sound}
+use Rattle.chart.specs.declared.Chart.{Chart}
+use Rattle.chart_refuse.specs.Refusal.{chartRefusal}
+use Rattle.chart_refuse.proofs.Accepted.{accepted}
+use Rattle.route_links.specs.Arrays.{farNode}
+use Rattle.route_links.specs.ByNode.{otherThan, leadsOut, linksOut}
+use Rattle.route_links.specs.Sets.{whereFrom}
+use Rattle.route_links.proofs.Places.{where-same}
+use Rattle.chart_refuse.specs.Promises.{Accepted}
 use Rattle.route_search.specs.declared.Traced.the-variants.{Route, Refused}
 use Rattle.route_search.specs.Answers.{Told, told, findingRefusal, findingRoute, firstRefusal, nextRefusal}
 use Rattle.route_search.proofs.Telling.{first-room, next-room, next-long}
-use Rattle.chart_net.specs.Net.{stationPlace, chartNet, start, routesOf, routesBetween}
+use Rattle.chart_net.specs.Contracts.{endsFor, passagesFor}
+use Rattle.chart_net.proofs.Kept.{far-same, leads-away}
+use Rattle.chart_net.specs.Net.{farEnd, stationPlace, chartNet, start, routesOf, routesBetween}
 use Rattle.chart_net.specs.Promises.{IsRouteOf}
 use Rattle.chart_net.proofs.Promises.{accepted-ends}
 use Rattle.route_trace.specs.Trace.{firstRefusalOf, nextRefusalOf, traceFirst, traceNext}
-use Rattle.route_trace.specs.Promises.{ListsRoutes, RoutesListed, GoesThrough, ended, another, RoutesTraced, EveryRouteTraced, TooShort, ShortBuffers}
+use Rattle.route_trace.specs.Promises.{isSome, keptNet, ChartLinksKept, ListsRoutes, RoutesListed, GoesThrough, ended, another, RoutesTraced, EveryRouteTraced, TooShort, ShortBuffers}
 
 -- the first and the next of a list of routes are in it
 first-in : (l : List (List ℕ)) (r : List ℕ) → firstOf l ≡ route r → List·Memᴰ r l
@@ -195,3 +203,35 @@ every-route = traced
 
 pub short-buffers : ShortBuffers
 short-buffers = too-short
+
+-- ---- the links kept beside a node
+
+module _ (c : Chart) (ok : Accepted c) (a : ℕ) (h : a < c .nodes .count) where
+  abbrev kept : ℕ → Option ℕ
+  kept i = farNode (endsFor (c .nodes) (c .links)) (passagesFor (c .links)) (c .links .count) i a
+
+  -- in range a link leads to the same node, which is not a
+  below : (i : ℕ) → i < c .links .count → otherThan a (farNode (endsFor (c .nodes) (c .links)) (passagesFor (c .links)) (c .links .count) i a) ≡ isSome (farEnd (c .nodes) (c .links) i a)
+  below i l = ap (otherThan a) (sym (far-same c ok i a l h)) ∙ go (farEnd (c .nodes) (c .links) i a) refl
+    where
+      go : (o : Option ℕ) → farEnd (c .nodes) (c .links) i a ≡ o → otherThan a o ≡ isSome o
+      go none e = refl
+      go (some f) e = rw (ne-eqb f a (λ q. leads-away c ok i a f l h e q))
+
+  -- past the links none leads anywhere
+  beyond : (i : ℕ) → c .links .count ≤ i → otherThan a (farNode (endsFor (c .nodes) (c .links)) (passagesFor (c .links)) (c .links .count) i a) ≡ isSome (farEnd (c .nodes) (c .links) i a)
+  unfolding farNode farEnd
+  beyond i l = rw (le-ltb i (c .links .count) l)
+
+links-are : (c : Chart) (a : ℕ) → chartRefusal c ≡ 0 → a < c .nodes .count → linksOut (keptNet c) a ≡ whereFrom (λ i. isSome (farEnd (c .nodes) (c .links) i a)) 0 (c .links .count)
+unfolding linksOut leadsOut
+links-are c a ok h = where-same _ _ 0 (c .links .count) (λ i l. go i (decLt i (c .links .count)))
+  where
+    go : (i : ℕ) → Dec (i < c .links .count) → otherThan a (kept c (accepted c ok) a h i) ≡ isSome (farEnd (c .nodes) (c .links) i a)
+    go i (yes l) = below c (accepted c ok) a h i l
+    go i (no l) = beyond c (accepted c ok) a h i (omega arith)
+
+pub chart-links-kept : ChartLinksKept
+chart-links-kept c t a ok T h =
+    let l = accepted c ok .few-nodes in
+    T .out a (omega (arith, l, h)) .places ∙ links-are c a ok h

@@ -1,16 +1,23 @@
 -- Demand 3, of the calls themselves on one lent buffer (document 01, "Routes and their order"): the first route, then the next after each until told
--- that there are no more, are all routes, each once and in order. proofs/Promises.antt has the theorems.
-use Prim.Native.Nat.{ℕ, _<_, _≤_}
+-- that there are no more, are all routes, each once and in order. And the links that are kept beside the nodes of a chart (document 02, Ten).
+-- proofs/Promises.antt has the theorems.
+use Prim.Native.Nat.{ℕ, _+_, _<_, _≤_}
 use mathlib.Core.Path.{_≡_}
 use mathlib.Core.Logic.{_↔_}
+use mathlib.Core.Bool.{Bool, true, false}
+use mathlib.Core.Option.{Option, none, some}
 use mathlib.Core.List.{List, [], _∷_, List·Memᴰ}
-use lib.ListN.{length, take, drop}
+use lib.ListN.{length, getD, take, drop}
 use Rattle.chart.specs.declared.Chart.{Chart}
 use Rattle.chart_refuse.specs.Refusal.{chartRefusal}
-use Rattle.route.specs.Route.{Increasing, NoneTwice}
+use Rattle.route.specs.Route.{Net, Increasing, NoneTwice}
 use Rattle.route_search.specs.declared.Traced.the-variants.{Route, Refused}
 use Rattle.route_search.specs.Answers.{longestRoute, Told}
-use Rattle.chart_net.specs.Net.{routesOf}
+use Rattle.route_links.specs.Arrays.{net}
+use Rattle.route_links.specs.Sets.{whereFrom, placesIn}
+use Rattle.route_links.specs.ByNode.{outRow, ByNode}
+use Rattle.chart_net.specs.Net.{farEnd, routesOf}
+use Rattle.chart_net.specs.Contracts.{stationPlaceFor, endsFor, passagesFor}
 use Rattle.chart_net.specs.Promises.{IsRouteOf}
 use Rattle.route_trace.specs.Trace.{traceFirst, traceNext}
 
@@ -50,3 +57,17 @@ pub record TooShort (c : Chart) (buf : List ℕ) : Type 0 where
 
 abbrev pub ShortBuffers : Type 0
 ShortBuffers = (c : Chart) → chartRefusal c ≡ 0 → (buf : List ℕ) → length buf < longestRoute → TooShort c buf
+
+-- a link leads on from a node
+abbrev pub isSome : Option ℕ → Bool
+isSome none = false
+isSome (some f) = true
+
+-- the arrays that are kept of a chart, as a net
+abbrev pub keptNet : Chart → Net
+keptNet c = net (endsFor (c .nodes) (c .links)) (passagesFor (c .links)) (c .links .count) (stationPlaceFor (c .nodes) (c .to))
+
+-- the word of a node, in the table that is made of an accepted chart, has the links of the chart that can be passed from there, in order of place, and no other
+abbrev pub ChartLinksKept : Type 0
+ChartLinksKept = (c : Chart) (t : List ℕ) (a : ℕ) → chartRefusal c ≡ 0 → ByNode (keptNet c) t → a < c .nodes .count
+    → placesIn (getD t (outRow + a) 0) ≡ whereFrom (λ i. isSome (farEnd (c .nodes) (c .links) i a)) 0 (c .links .count)

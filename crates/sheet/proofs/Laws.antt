@@ -24,7 +24,8 @@ use Rattle.chart_refuse.proofs.Accepted.{accepted}
 use Rattle.chart_write.proofs.Promises.{write-undoes-read}
 use Rattle.route_search.proofs.Telling.{places-right}
 use Rattle.chart_net.specs.Net.{start, routesOf}
-use Rattle.chart_net.specs.Contracts.{stationPlaceFor, endsFor, passagesFor, arrayRoutes}
+use Rattle.chart_net.specs.declared.Asked.{Asked}
+use Rattle.chart_net.specs.Contracts.{askedOf, stationPlaceFor, endsFor, passagesFor, arrayRoutes}
 use Rattle.chart_net.proofs.Places.{place-few}
 use Rattle.chart_net.proofs.Promises.{routes-kept, accepted-ends}
 use Rattle.text.specs.Contracts.{Laid, last}
@@ -42,7 +43,7 @@ line-more line d i e p w = said (sym (joined-next (lineAt line d) place i)) (p �
 
 -- ---- the routes of an accepted chart
 
-pub routes-listed : (c : Chart) → chartRefusal c ≡ 0
+routes-listed : (c : Chart) → chartRefusal c ≡ 0
     → routesHeld (endsFor (c .nodes) (c .links)) (passagesFor (c .links)) (c .links .count) (stationPlaceFor (c .nodes) (c .from)) (stationPlaceFor (c .nodes) (c .to)) ≡ routesOf c
 unfolding routesHeld unlessRefused arrayRoutes start
 routes-listed c ok =
@@ -51,6 +52,12 @@ routes-listed c ok =
     let k = yes .few-nodes in
     let p : stationPlaceFor (c .nodes) (c .from) < 16 = rw (place-few (c .nodes) (c .from) (yes .few-nodes)) (omega arith) in
     rw (places-right (c .links .count) (stationPlaceFor (c .nodes) (c .from)) (yes .few-links) p) (routes-kept c yes)
+
+-- the same of what was made of it
+pub kept-listed : (c : Chart) → chartRefusal c ≡ 0 → {ends : List (List ℕ)} {ways : List ℕ} {asked : Asked} → ends ≡ endsFor (c .nodes) (c .links) → ways ≡ passagesFor (c .links)
+    → asked ≡ askedOf c → routesHeld ends ways (c .links .count) (asked .from) (asked .to) ≡ routesOf c
+unfolding askedOf
+kept-listed c ok e w q = (λ j. routesHeld (e j) (w j) (c .links .count) (q j .from) (q j .to)) ∙ routes-listed c ok
 
 -- ---- what was read
 

@@ -6,11 +6,9 @@ use mathlib.Core.List.{List, List·Memᴰ}
 use native.Mathlib.Omega.{arith}
 use lib.ListN.{length, length-append}
 use lib.Dec.{ltb, leb}
-use Rattle.buffer.specs.Bytes.{Bytes}
 use Rattle.lists.specs.Places.{anyBelow, joined}
 use Rattle.lists.specs.Refusals.{unlessRefused}
 use Rattle.lists.proofs.Bools.{and-left, and-right}
-use Rattle.buffer.specs.declared.Written.the-variants.{Wrote}
 use Rattle.lists.proofs.Runs.{joined-most}
 use Rattle.buffer.proofs.Writing.{wrote-size}
 use Rattle.address.specs.declared.Address.{Address}

@@ -16,14 +16,11 @@ use Rattle.chart_net.specs.Net.{routesOf}
 use Rattle.text.specs.Marks.{ascii}
 use Rattle.sheet_lines.specs.Lines.{countsLine, refusedLine}
 use Rattle.sheet_lines.specs.Lines.{nodeLine, linkLine, questionLine}
-use Rattle.sheet_routes.specs.RouteLines.{listText}
+use Rattle.sheet_routes.specs.RouteLines.{mostRoutes, listText}
 
--- an input above 4,096 bytes is not looked at; no more than 1,000 routes are listed
+-- an input above 4,096 bytes is not looked at
 abbrev pub longestInput : ℕ
 longestInput = 4096
-
-abbrev pub mostRoutes : ℕ
-mostRoutes = 1000
 
 -- the one line of a longer input
 abbrev pub longLine : List ℕ

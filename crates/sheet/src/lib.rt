@@ -3,9 +3,9 @@ use buffer::Written;
 use chart::Chart;
 use chart::Links;
 use chart::Nodes;
-use chart_net::ends_for;
+use chart_net::asked_of;
+use chart_net::ends_of;
 use chart_net::passages_for;
-use chart_net::place_for;
 use chart_read::ChartRead;
 use chart_read::read_chart;
 use sheet_lines::put_counts;
@@ -26,14 +26,11 @@ ghost use Rattle.chart_refuse.specs.Refusal.{chartRefusal};
 ghost use Rattle.chart_net.specs.Net.{routesOf};
 ghost use Rattle.text.specs.Contracts.{Laid};
 ghost use Rattle.sheet_lines.specs.Lines.{nodeLine, linkLine};
-ghost use Rattle.sheet_routes.specs.RouteLines.{listText};
-ghost use Rattle.sheet.specs.Sheet.{place, lineAt, mostRoutes, chartText, readText, sheetText, sheetRefusal, writeSheetOf, sheetAfter};
+ghost use Rattle.sheet_routes.specs.RouteLines.{mostRoutes, listText};
+ghost use Rattle.sheet.specs.Sheet.{place, lineAt, chartText, readText, sheetText, sheetRefusal, writeSheetOf, sheetAfter};
 
 // An input above this is not looked at.
 pub const LONGEST_INPUT: usize = 4096;
-
-// No more route lines than this.
-pub const MOST_ROUTES: usize = 1000;
 
 // No sheet is longer: a buffer of this size is never refused.
 pub const LONGEST_SHEET: usize = 47369;
@@ -73,21 +70,18 @@ fn put_chart_routes(out: &mut [u8], at: usize, c: Chart) -> usize
     requires { ⌜ chartRefusal c ≡ 0 ⌝ }
     ensures { λ r. ⌜ Laid (now (out .entry)) at (listText mostRoutes (routesOf c)) (now (out .exit)) r ⌝ }
 {
-    let nodes = c.nodes;
     let links = c.links;
-    let ends = ends_for(nodes, links);
+    let ends = ends_of(c);
     let ways = passages_for(links);
-    let from = place_for(nodes, c.from);
-    let to = place_for(nodes, c.to);
+    let asked = asked_of(c);
     put_routes(
         out,
         at,
         ends,
         ways,
         links.count as usize,
-        from,
-        to,
-        MOST_ROUTES,
+        asked.from,
+        asked.to,
     )
 }
 

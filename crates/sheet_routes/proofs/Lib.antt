@@ -1,3 +1,3 @@
 pub mod Routes
-pub mod Going
+pub mod Slots
 pub mod Lengths

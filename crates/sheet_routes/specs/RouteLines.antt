@@ -4,6 +4,10 @@ use mathlib.Core.List.{List, [], _∷_, _++_}
 use Rattle.text.specs.Marks.{ascii, blank, lf}
 use Rattle.text.specs.Decimal.{decimal}
 
+-- no more routes than these are listed
+abbrev pub mostRoutes : ℕ
+mostRoutes = 1000
+
 -- link places, each after a blank
 unfoldable pub placesText : List ℕ → List ℕ
 placesText [] = []

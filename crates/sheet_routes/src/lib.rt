@@ -1,21 +1,20 @@
-// The route lines of the printed sheet (document 01, "The printed sheet"), from one route to the next.
-use chart::MOST_LINKS;
-use chart::MOST_NODES;
-use route_search::LONGEST_ROUTE;
-use route_search::Traced;
-use route_search::first_route;
-use route_search::next_route;
+// The route lines of the printed sheet (document 01, "The printed sheet"), from the slots of the lister.
+use route_list::Listed;
+use route_list::SLOT_SIZE;
+use route_list::list;
 use text::put_byte;
 use text::put_bytes;
 use text::put_number;
 ghost use mathlib.Core.Path.{_≡_};
-ghost use Prim.Native.Nat.{_≤_, _<_};
 ghost use lib.ListN.{drop};
-ghost use Rattle.route_search.specs.Contracts.{routesOver};
 ghost use Rattle.text.specs.Contracts.{Laid};
-ghost use Rattle.sheet_routes.specs.RouteLines.{placesText, routeLine, endLine, moreLine, listText};
-ghost use Rattle.sheet_routes.specs.Contracts.{routeLength, routesHeld};
-ghost use Rattle.chart.specs.Values.{mostLinks, mostNodes};
+ghost use Rattle.sheet_routes.specs.RouteLines.{mostRoutes, placesText, routeLine, endLine, moreLine, listText};
+ghost use Rattle.sheet_routes.specs.Contracts.{routesHeld, routesFrom, Slotted, linesText, listedText};
+
+// The most routes that a sheet lists.
+pub const MOST_ROUTES: usize = 1000;
+
+const FEW_ROUTES: usize = 32;
 
 // Each place of a route but its first, after a blank.
 fn put_places(out: &mut [u8], at: usize, r: &[u8]) -> usize
@@ -57,49 +56,35 @@ fn put_more(out: &mut [u8], at: usize) -> usize
     put_bytes(out, at, b"more\n")
 }
 
-// The length of the route that an answer speaks of; 16, which no route has, where there is none.
-fn route_length(t: Traced) -> usize
-    ensures { λ r. ⌜ r ≡ routeLength t ⌝ }
+// The lines of the routes in the first n slots.
+fn put_slots(out: &mut [u8], at: usize, slots: &[u8], n: usize) -> usize
+    requires { ⌜ Slotted (now slots) n ⌝ }
+    ensures { λ r. ⌜ Laid (now (out .entry)) at (linesText (routesFrom (now (slots .entry)) 0 n)) (now (out .exit)) r ⌝ }
 {
-    match t {
-        Traced::Route(n) => n as usize,
-        Traced::Refused(_) => 16,
-    }
-}
-
-// The routes over arrays that are in range.
-fn put_list(
-    out: &mut [u8],
-    at: usize,
-    ends: [[u8; 2]; 48],
-    ways: [u8; 48],
-    links: usize,
-    from: u8,
-    to: u8,
-    most: usize,
-) -> usize
-    requires { ⌜ links ≤ mostLinks ⌝ ∗ ⌜ from < mostNodes ⌝ }
-    ensures { λ r. ⌜ Laid (now (out .entry)) at (listText most (routesOver ends ways links from to)) (now (out .exit)) r ⌝ }
-{
-    let mut buf = [0u8; 15];
-    let mut n = route_length(first_route(ends, ways, links, from, to, &mut buf));
     let mut next = at;
-    let mut left = most;
-    while 0 < left {
-        if LONGEST_ROUTE < n {
-            return put_last(out, next);
-        }
-        next = put_route(out, next, &buf[..n]);
-        n = route_length(next_route(ends, ways, links, from, to, &mut buf, n));
-        left -= 1;
+    let mut k: usize = 0;
+    while k < n {
+        let route = SLOT_SIZE * k + 1;
+        let d = slots[SLOT_SIZE * k] as usize;
+        next = put_route(out, next, &slots[route..route + d]);
+        k += 1;
     }
-    if LONGEST_ROUTE < n {
-        return put_last(out, next);
-    }
-    put_more(out, next)
+    next
 }
 
-// A line for each route, `most` of them at most, and the last line.
+// The lines of what was listed, and the last line.
+fn put_listed(out: &mut [u8], at: usize, slots: &[u8], l: Listed) -> usize
+    requires { ⌜ Slotted (now slots) (l .count) ⌝ }
+    ensures { λ r. ⌜ Laid (now (out .entry)) at (listedText (now (slots .entry)) l) (now (out .exit)) r ⌝ }
+{
+    let next = put_slots(out, at, slots, l.count);
+    if l.more {
+        return put_more(out, next);
+    }
+    put_last(out, next)
+}
+
+// A line for each route, at most 1,000, and the last line.
 pub fn put_routes(
     out: &mut [u8],
     at: usize,
@@ -108,15 +93,16 @@ pub fn put_routes(
     links: usize,
     from: u8,
     to: u8,
-    most: usize,
 ) -> usize
-    ensures { λ r. ⌜ Laid (now (out .entry)) at (listText most (routesHeld ends ways links from to)) (now (out .exit)) r ⌝ }
+    ensures { λ r. ⌜ Laid (now (out .entry)) at (listText mostRoutes (routesHeld ends ways links from to)) (now (out .exit)) r ⌝ }
 {
-    if (MOST_LINKS as usize) < links {
-        return put_last(out, at);
+    // Most charts have few routes, and a small buffer is soon made.
+    let mut few = [0u8; SLOT_SIZE * FEW_ROUTES];
+    let l = list(ends, ways, links, from, to, &mut few);
+    if !l.more {
+        return put_listed(out, at, &few, l);
     }
-    if MOST_NODES <= from {
-        return put_last(out, at);
-    }
-    put_list(out, at, ends, ways, links, from, to, most)
+    let mut slots = [0u8; SLOT_SIZE * MOST_ROUTES];
+    let l = list(ends, ways, links, from, to, &mut slots);
+    put_listed(out, at, &slots, l)
 }

@@ -12,20 +12,17 @@ use Rattle.chart_net.proofs.ends_for.Statement.{statement}
 use Rattle.chart_net.proofs.ends_for.Tie as tie
 
 abbrev Inv-loop : tie.InvT-loop
-Inv-loop nodes links ends₀ keys n i₀ ends i = (i ≤ n) × (ends ≡ row 48 (0 ∷ 0 ∷ []) (endPlacesAt nodes links) i)
+Inv-loop nodes keys links ends₀ n i₀ ends i = (i ≤ n) × (ends ≡ row 48 (0 ∷ 0 ∷ []) (endPlacesAt nodes links) i)
 
 abbrev μ-loop : tie.MeasureT-loop
-μ-loop nodes links ends₀ keys n i₀ ends i = n - i
+μ-loop nodes keys links ends₀ n i₀ ends i = n - i
 
 -- the array has 48 places
-whole : (s : tie.Start Inv-loop μ-loop) → length (s .args .t2 .items) ≡ 48
-whole s = simp length-map at (s .good .1 .0 .1 .1 .1 .1 .0 .1 .0 .1)
+whole : (s : tie.Start Inv-loop μ-loop) → length (s .args .t3 .items) ≡ 48
+whole s = simp length-map at (s .good .1 .1 .0 .1 .1 .1 .1 .0 .1 .0 .1)
 
 returns : tie.Need-returns Inv-loop μ-loop
-returns c = ends-many (c .before .args .t2) (c .before .args .nodes) (c .if1 .taken)
-
-station-keys-requires : tie.Need-station-keys-requires Inv-loop μ-loop
-station-keys-requires c κs = search needs
+returns c = ends-many (c .before .args .t3) (c .before .args .nodes) (c .if1 .taken)
 
 cast-n : tie.Need-cast-n Inv-loop μ-loop
 cast-n c = search needs
@@ -40,7 +37,7 @@ element-copy-out-l : tie.Need-element-copy-out-l Inv-loop μ-loop
 element-copy-out-l c = search needs
 
 link-ends-requires : tie.Need-link-ends-requires Inv-loop μ-loop
-link-ends-requires c κs = c .before .before .before .before .station-keys .ensures
+link-ends-requires c κs = search needs
 
 mul-ends : tie.Need-mul-ends Inv-loop μ-loop
 mul-ends c = search needs
@@ -56,18 +53,18 @@ loop-less c = search needs
 
 loop-again : tie.Need-loop-again Inv-loop μ-loop
 loop-again c =
-    let s = c .before .before .before .before .before .before .before in
-    let l = c .before .before .before .before .loop in
-    let h = c .before .before .before .before .before .before .if1 .left in (
+    let s = c .before .before .before .before .before in
+    let l = c .before .before .before .loop in
+    let h = c .before .before .before .before .if1 .left in (
       omega arith,
-      ends-next (s .args .t2) (s .args .nodes) (l .ends) _ (l .i) (c .link-ends .result) (omega arith) (omega (arith, whole s)) (l .inv .1) (c .link-ends .ensures),
+      ends-next (s .args .t3) (s .args .nodes) (l .ends) _ (l .i) (c .link-ends .result) (omega arith) (omega (arith, whole s)) (l .inv .1) (c .link-ends .ensures),
     )
 
 returns-2 : tie.Need-returns-2 Inv-loop μ-loop
 returns-2 c =
-    let a = c .before .before .before .before .args in
+    let a = c .before .before .before .args in
     let l = c .before .loop in
-    ends-all (a .t2) (a .nodes) (l .ends) (l .i) (c .before .before .before .if1 .left) (omega arith) (l .inv .1)
+    ends-all (a .t3) (a .nodes) (l .ends) (l .i) (c .before .before .if1 .left) (omega arith) (l .inv .1)
 
 pub ends-for-spec : {M : Type 1} → statement M
 ends-for-spec =
@@ -76,7 +73,6 @@ ends-for-spec =
     Inv-loop
     μ-loop
     returns
-    station-keys-requires
     cast-n
     loop-holds
     mul-l

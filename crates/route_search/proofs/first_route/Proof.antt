@@ -1,15 +1,15 @@
 -- `route_search::first_route` meets its contract: 26, 28 and 42 in their turn; else what walking on from the first node finds is the first of all routes.
 use mathlib.Core.Path.{_≡_, ap, _∙_}
-use native.Mathlib.Omega.{arith}
+use mathlib.Core.List.{List}
+use Prim.Native.Nat.{ℕ}
 use lib.ListN.{length}
 use borrow.Author.Needs.{needs}
-use Rattle.route.specs.All.{unmet}
-use Rattle.route.specs.Contracts.{leastFrom}
+use Rattle.route.specs.All.{firstOf}
+use Rattle.route_links.specs.Contracts.{routesOn}
 use Rattle.route_search.specs.Answers.{firstRoute}
-use Rattle.route_search.specs.Contracts.{metOf, net, routesOver, foundAt}
-use Rattle.route_search.proofs.Leading.{only-unmet}
+use Rattle.route_search.specs.Contracts.{routesOver, foundAt}
 use Rattle.route_search.proofs.Finding.{found-len}
-use Rattle.route_search.proofs.Telling.{first-many, first-placeless, first-small, first-told, first-join, carried}
+use Rattle.route_search.proofs.Telling.{first-many, first-placeless, first-small, first-told, all-join, begins, carried}
 use Rattle.route_search.proofs.first_route.Statement.{statement}
 use Rattle.route_search.proofs.first_route.Tie as tie
 
@@ -31,32 +31,33 @@ returns-3 c =
     let a = c .before .before .before .before .args in
     first-small (a .ends) (a .ways) (a .links) (a .from) (a .to) (c .before .before .if1 .left) (c .before .if2 .left) (a .buf .now) (c .if3 .taken)
 
-only-met-requires : tie.Need-only-met-requires
-only-met-requires c κs = search needs
+links-by-node-requires : tie.Need-links-by-node-requires
+links-by-node-requires c κs = search needs
 
 walk-on-requires : tie.Need-walk-on-requires
 walk-on-requires c κs =
-    let s = c .before .before .before .before .before in
-    let u : unmet 16 (metOf (c .only-met .result)) ≡ 15 = rw (c .only-met .ensures) (only-unmet (s .args .from) (c .before .before .if2 .left)) in
-    (c .before .before .before .if1 .left, omega arith)
+    let a = c .before .before .before .before .before .before .args in
+    begins (a .ends) (a .ways) (a .links) (a .from) (a .to) (c .before .before .before .before .if1 .left) (c .before .before .before .if2 .left) (c .before .links-by-node .result) (c .before .links-by-node .ensures)
 
 hand-over-requires : tie.Need-hand-over-requires
 hand-over-requires c κs =
-    let a = c .before .before .before .before .before .before .before .args in
-    let h : length (c .before .walk-on .result .route) ≡ 15 = search needs in
-    (found-len 0 (leastFrom (net (a .ends) (a .ways) (a .links) (a .to)) (a .from) (metOf (c .before .before .only-met .result))) (c .before .walk-on .result) (c .before .walk-on .ensures) h, h)
+    let a = c .before .before .before .before .before .before .before .before .args in
+    let w = c .before .walk-on in
+    let h : length (w .result .route) ≡ 15 = search needs in
+    (found-len 0 (firstOf (routesOn (c .before .before .before .links-by-node .result) (a .from) 0)) (w .result) (w .ensures) h, h)
 
 same-length : tie.Need-same-length
 same-length c = search needs
 
 returns-4 : tie.Need-returns-4
 returns-4 c =
-    let a = c .before .before .before .before .before .before .before .before .before .before .args in
-    let w = c .before .before .before .before in
-    let few = w .before .before .before .before .if1 .left in
-    let inside = w .before .before .before .if2 .left in
-    let j = first-join (a .ends) (a .ways) (a .links) (a .from) (a .to) few inside (w .before .only-met .result) (w .before .only-met .ensures) in
-    let p = first-told (a .ends) (a .ways) (a .links) (a .from) (a .to) few inside (a .buf .now) (w .walk-on .result) (w .before .before .if3 .left) (w .walk-on .ensures ∙ ap (foundAt 0) j) in
+    let a = c .before .before .before .before .before .before .before .before .before .before .before .args in
+    let w = c .before .before .before .before .walk-on in
+    let t = c .before .before .before .before .before .before .links-by-node in
+    let few = c .before .before .before .before .before .before .before .before .before .if1 .left in
+    let inside = c .before .before .before .before .before .before .before .before .if2 .left in
+    let j = all-join (a .ends) (a .ways) (a .links) (a .from) (a .to) few inside (t .result) (t .ensures) in
+    let p = first-told (a .ends) (a .ways) (a .links) (a .from) (a .to) few inside (a .buf .now) (w .result) (c .before .before .before .before .before .before .before .if3 .left) (w .ensures ∙ ap (λ (l : List (List ℕ)). foundAt 0 (firstOf l)) j) in
     carried (firstRoute (routesOver (a .ends) (a .ways) (a .links) (a .from) (a .to))) (a .buf .now) (c .before .before .hand-over .ensures .0) (c .before .before .hand-over .ensures .1) p
 
 pub first-route-spec : {M : Type 1} → statement M
@@ -67,7 +68,7 @@ first-route-spec =
     returns
     returns-2
     returns-3
-    only-met-requires
+    links-by-node-requires
     walk-on-requires
     hand-over-requires
     same-length

@@ -1,0 +1,12 @@
+pub mod Digits
+pub mod Places
+pub mod Putting
+pub mod Building
+pub mod Arrays
+pub mod Rows
+pub mod Filling
+pub mod Table
+pub mod Cover
+pub mod Standing
+pub mod Turning
+pub mod Promises

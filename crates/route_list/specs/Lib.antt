@@ -1,0 +1,4 @@
+pub mod Listing
+pub mod Contracts
+pub mod Promises
+pub mod Cases
