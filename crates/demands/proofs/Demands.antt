@@ -1,5 +1,5 @@
 -- The three demands: each statement is a theorem of the crate that it speaks of; what a refusal leaves is said here for every call.
-use Prim.Native.Nat.{ℕ, zero, suc}
+use Prim.Native.Nat.{ℕ}
 use mathlib.Core.Path.{_≡_, refl, ap}
 use mathlib.Core.Bool.{Bool, cond, _&&_}
 use mathlib.Core.List.{List, [], _∷_}
@@ -7,9 +7,6 @@ use lib.Dec.{eqb, ltb}
 use lib.ListN.{length}
 use Rattle.lists.proofs.Given.{Given, tested, either, among-more}
 use Rattle.lists.proofs.Refusals.{refused}
-use Rattle.buffer.specs.Bytes.{Bytes}
-use Rattle.address.specs.declared.Port.{Port}
-use Rattle.address.specs.declared.Address.{Address}
 use Rattle.envelope_read.proofs.Contents.{contents-stand}
 use Rattle.envelope_write.proofs.Promises.{read-undoes-write, write-undoes-read}
 use Rattle.envelope_door.specs.Calls.{pzReadImage, pzWriteCount, pzWriteFrame}

@@ -5,7 +5,6 @@ use route_list::list;
 use text::put_byte;
 use text::put_bytes;
 use text::put_number;
-ghost use mathlib.Core.Path.{_≡_};
 ghost use lib.ListN.{drop};
 ghost use Rattle.text.specs.Contracts.{Laid};
 ghost use Rattle.sheet_routes.specs.RouteLines.{mostRoutes, placesText, routeLine, endLine, moreLine, listText};
