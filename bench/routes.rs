@@ -1,7 +1,8 @@
 //! All routes of a chart, listed over and over: routes WHO CHART TIMES.
 //! WHO is ours (pz_first, then pz_next until 43), list (pz_routes, which lists all routes of these charts), walk (an ordinary exhaustive walk over
 //! adjacency lists), store (the same walk, each route stored before it is counted), none, or bytes, which writes the chart.
-//! CHART is s, complete6, complete7, complete8, comb, or drawn1 to drawn20. The number of routes and a sum over their links are printed, the same for all.
+//! CHART is s, complete6, complete7, complete8, grid, comb, comb-start, comb-middle, comb-end, strands, mesh, or drawn1 to drawn20. The number of routes and
+//! a sum over their links are printed, the same for all.
 
 extern "C" {
     fn pz_first(chart: *const u8, n: usize, route: *mut u8, m: usize, length: usize) -> u8;
@@ -180,14 +181,28 @@ fn pairs(first: u8, last: u8) -> Vec<(u8, u8, bool)> {
     (first..=last).flat_map(|a| (a + 1..=last).map(move |b| (a, b, true))).collect()
 }
 
-/// A ladder of eight nodes, asked from its one end to its other, and seven more nodes that lead nowhere: each joined to each other, and one of them to the
-/// ladder's second node.
-fn comb() -> Vec<u8> {
-    let mut links = vec![(2, 9, true)];
+/// A ladder of eight nodes, asked from its one end to its other, and seven more nodes that lead nowhere: each joined to each other, and one of them to a node
+/// of the ladder. The comb's links come first.
+fn comb(hung_on: u8) -> Vec<u8> {
+    let mut links = vec![(hung_on, 9, true)];
     links.extend(pairs(9, 15));
     links.extend((1..=6).map(|a| (a, a + 2, true)));
     links.extend([1, 3, 5, 7].map(|a| (a, a + 1, true)));
     chart(15, 8, &links)
+}
+
+/// Four rows of four nodes, each joined to its neighbours, asked from one corner to the opposite one.
+fn grid() -> Vec<u8> {
+    let mut links = Vec::new();
+    for node in 1..=16 {
+        if node % 4 != 0 {
+            links.push((node, node + 1, true));
+        }
+        if node <= 12 {
+            links.push((node, node + 4, true));
+        }
+    }
+    chart(16, 16, &links)
 }
 
 /// A drawn chart: so many nodes and links, one link in eight off, from a fixed seed.
@@ -215,7 +230,13 @@ fn main() {
         "complete6" => complete(6),
         "complete7" => complete(7),
         "complete8" => complete(8),
-        "comb" => comb(),
+        "grid" => grid(),
+        "comb" => comb(2),
+        "comb-start" => comb(1),
+        "comb-middle" => comb(4),
+        "comb-end" => comb(7),
+        "strands" => include_bytes!("../charts/strands.chart").to_vec(),
+        "mesh" => include_bytes!("../charts/mesh.chart").to_vec(),
         other => match other.strip_prefix("drawn").and_then(|number| number.parse::<u64>().ok()) {
             Some(seed) => drawn(seed, 6 + (2 * seed % 7) as u8, 12 + (seed % 7) as usize * 2),
             None => panic!("no chart {other}"),

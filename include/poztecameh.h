@@ -19,8 +19,8 @@
  * file. Any call may be made on any thread at any time, as long as nobody else writes what it
  * reads, or touches what it writes.
  *
- * Stack. Measured, not proved: pz_sheet needs 22,440 bytes, the calls on a ledger up to 9,608,
- * pz_next up to 5,904, pz_routes 4,712, pz_first 4,360, all others less than 4,200. tests/stack.c
+ * Stack. Measured, not proved: pz_sheet needs 22,568 bytes, the calls on a ledger up to 9,608,
+ * pz_next up to 5,320, pz_routes 4,840, pz_first 4,208, all others less than 4,200. tests/stack.c
  * makes each call on a painted stack, over the largest inputs and the deepest searches, and fails
  * where one needs 24,000. Give a thread 65,536 (PZ_STACK_SIZE): twice that, with room for the
  * caller's own.

@@ -11,6 +11,7 @@ use crate::sheet::{print, LONGEST_INPUT};
 use crate::trace::Routes;
 use crate::trace_call::walk_through;
 use crate::trace_cases::thousand;
+use crate::trace_combs::{mesh, strands};
 use std::fs;
 
 pub const GROUPS: &[Tests] = &[("chart samples", samples)];
@@ -26,7 +27,7 @@ type Sample = (&'static str, Refusal, usize, fn() -> Vec<u8>);
 
 const ACCEPTED: Refusal = (0, 0);
 
-const SAMPLES: [Sample; 28] = [
+const SAMPLES: [Sample; 30] = [
     ("s", ACCEPTED, 4, || S.to_vec()),
     ("unlabelled", ACCEPTED, 4, || {
         changed(|d| d.nodes.iter_mut().for_each(|node| node.label.clear()))
@@ -43,6 +44,8 @@ const SAMPLES: [Sample; 28] = [
     ("largest", ACCEPTED, 3, || largest().lay()),
     ("thousand", ACCEPTED, 1000, || thousand(0).lay()),
     ("thousand-one", ACCEPTED, 1001, || thousand(1).lay()),
+    ("strands", ACCEPTED, 0, || strands().lay()),
+    ("mesh", ACCEPTED, 0, || mesh().lay()),
     ("cut", (21, 115), 0, || S[..120].to_vec()),
     ("tag", (22, 43), 0, || rearranged(|p| p[4].tag = 5)),
     ("length", (23, 13), 0, || changed(|d| d.nodes[1].label = vec![b'x'; 25])),

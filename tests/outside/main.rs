@@ -29,6 +29,7 @@ mod sheet_cases;
 mod trace;
 mod trace_call;
 mod trace_cases;
+mod trace_combs;
 mod trace_draws;
 mod trace_lists;
 mod wire;
@@ -66,6 +67,7 @@ fn main() {
         chart_moves::GROUPS,
         chart_samples::GROUPS,
         trace_cases::GROUPS,
+        trace_combs::GROUPS,
         trace_draws::GROUPS,
         trace_lists::GROUPS,
         sheet_cases::GROUPS,

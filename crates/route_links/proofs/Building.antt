@@ -51,8 +51,10 @@ built-same R S t g h B =
     record {
       size = B .size;
       small = B .small;
+      few = B .few;
       ins = λ i f l e. (let w = B .ins i f l e in (w .0, g i (w .0) f (w .1)));
       outs = λ i a l e. (let w = B .outs i a l e in (w .0, g i a (w .0) (w .1)));
+      froms = λ a f l e. (let w = B .froms a f l e in (w .0, g (w .0) a f (w .1)));
       leads = λ i a f s. B .leads i a f (h i a f s);
       unused = λ i l never. B .unused i l (λ a f r. never a f (g i a f r));
     }
@@ -68,13 +70,19 @@ module _ (R : ℕ → ℕ → ℕ → Type 0) (t : List ℕ) (B : Built R t) (i 
   t₂ = putIn t₁ (16 + a) i
 
   abbrev t₃ : List ℕ
-  t₃ = set t₂ (32 + i) (a + b)
+  t₃ = putIn t₂ (81 + b) a
 
-  s₁ : length t₁ ≡ 81
+  abbrev t₄ : List ℕ
+  t₄ = set t₃ (32 + i) (a + b)
+
+  s₁ : length t₁ ≡ 97
   s₁ = put-length t b i ∙ B .size
 
-  s₂ : length t₂ ≡ 81
+  s₂ : length t₂ ≡ 97
   s₂ = put-length t₁ (16 + a) i ∙ s₁
+
+  s₃ : length t₃ ≡ 97
+  s₃ = put-length t₂ (81 + b) a ∙ s₂
 
   h₁ : b < length t
   h₁ = let e = B .size in omega arith
@@ -82,11 +90,28 @@ module _ (R : ℕ → ℕ → ℕ → Type 0) (t : List ℕ) (B : Built R t) (i 
   h₂ : 16 + a < length t₁
   h₂ = let e = s₁ in omega arith
 
-  -- a word that is no sum
-  past : (q : ℕ) → q < 32 → getD t₃ q 0 ≡ getD t₂ q 0
-  past q h = getD-set-other t₂ (32 + i) q (a + b) 0 (λ e. absurd (omega arith))
+  h₃ : 81 + b < length t₂
+  h₃ = let e = s₂ in omega arith
 
-  keeps : (q j : ℕ) → q < 32 → has (getD t q 0) j ≡ true → has (getD t₃ q 0) j ≡ true
+  la′ : a < 48
+  la′ = omega arith
+
+  -- a word that is no sum, and a set of links
+  past-sum : (q : ℕ) → (q < 32) ⊎ (80 ≤ q) → getD t₄ q 0 ≡ getD t₃ q 0
+  past-sum q (inl h) = getD-set-other t₃ (32 + i) q (a + b) 0 (λ e. absurd (omega arith))
+  past-sum q (inr h) = getD-set-other t₃ (32 + i) q (a + b) 0 (λ e. absurd (omega arith))
+
+  past : (q : ℕ) → q < 32 → getD t₄ q 0 ≡ getD t₂ q 0
+  past q h = past-sum q (inl h) ∙ put-other t₂ (81 + b) a q (λ e. absurd (omega arith))
+
+  -- the nodes that links come from
+  past-from : (f : ℕ) → getD t₄ (81 + f) 0 ≡ getD t₃ (81 + f) 0
+  past-from f = past-sum (81 + f) (inr (omega arith))
+
+  was-from : (f : ℕ) → getD t₂ (81 + f) 0 ≡ getD t (81 + f) 0
+  was-from f = put-other t₁ (16 + a) i (81 + f) (λ e. absurd (omega arith)) ∙ put-other t b i (81 + f) (λ e. absurd (omega arith))
+
+  keeps : (q j : ℕ) → q < 32 → has (getD t q 0) j ≡ true → has (getD t₄ q 0) j ≡ true
   keeps q j h e = ap (λ (w : ℕ). has w j) (past q h) ∙ put-keeps t₁ (16 + a) i h₂ li q j (put-keeps t b i h₁ li q j e)
 
   -- what a digit of a set was, or how it came
@@ -95,7 +120,7 @@ module _ (R : ℕ → ℕ → ℕ → Type 0) (t : List ℕ) (B : Built R t) (i 
     into : q ≡ b → j ≡ i → Came q j
     out : q ≡ 16 + a → j ≡ i → Came q j
 
-  came : (q j : ℕ) → q < 32 → has (getD t₃ q 0) j ≡ true → Came q j
+  came : (q j : ℕ) → q < 32 → has (getD t₄ q 0) j ≡ true → Came q j
   came q j h e = second (put-was t₁ (16 + a) i h₂ li q j (ap (λ (w : ℕ). has w j) (sym (past q h)) ∙ e))
     where
       first : (has (getD t q 0) j ≡ true) ⊎ ((q ≡ b) × (j ≡ i)) → Came q j
@@ -106,19 +131,20 @@ module _ (R : ℕ → ℕ → ℕ → Type 0) (t : List ℕ) (B : Built R t) (i 
       second (inl z) = first (put-was t b i h₁ li q j z)
       second (inr (x, y)) = out x y
 
-  sum₃ : getD t₃ (32 + i) 0 ≡ a + b
-  sum₃ = let l : 32 + i < length t₂ = (let z = s₂ in omega arith) in getD-set-same t₂ (32 + i) (a + b) 0 l
+  sum₄ : getD t₄ (32 + i) 0 ≡ a + b
+  sum₄ = let l : 32 + i < length t₃ = (let z = s₃ in omega arith) in getD-set-same t₃ (32 + i) (a + b) 0 l
 
-  other-sum : (j : ℕ) → (j ≡ i → ⊥) → getD t₃ (32 + j) 0 ≡ getD t (32 + j) 0
-  other-sum j h =
-      getD-set-other t₂ (32 + i) (32 + j) (a + b) 0 (λ e. h (omega arith))
+  other-sum : (j : ℕ) → j < 48 → (j ≡ i → ⊥) → getD t₄ (32 + j) 0 ≡ getD t (32 + j) 0
+  other-sum j l h =
+      getD-set-other t₃ (32 + i) (32 + j) (a + b) 0 (λ e. h (omega arith))
+      ∙ put-other t₂ (81 + b) a (32 + j) (λ e. absurd (omega arith))
       ∙ put-other t₁ (16 + a) i (32 + j) (λ e. absurd (omega arith))
       ∙ put-other t b i (32 + j) (λ e. absurd (omega arith))
 
   abbrev S : ℕ → ℕ → ℕ → Type 0
   S j x y = R j x y ⊎ This i a b j x y
 
-  kept-old : (j x y : ℕ) → R j x y → Kept t₃ j x y
+  kept-old : (j x y : ℕ) → R j x y → Kept t₄ j x y
   kept-old j x y r =
       let k = B .leads j x y r in
       record {
@@ -127,16 +153,17 @@ module _ (R : ℕ → ℕ → ℕ → Type 0) (t : List ℕ) (B : Built R t) (i 
         far = k .far;
         from = keeps (16 + x) j (let l = k .near in omega arith) (k .from);
         to = keeps y j (let l = k .far in omega arith) (k .to);
+        beside = ap (λ (w : ℕ). has w x) (past-from y) ∙ put-keeps t₂ (81 + b) a h₃ la′ (81 + y) x (ap (λ (w : ℕ). has w x) (was-from y) ∙ k .beside);
         sum = go (either (eqb j i));
       }
     where
-      go : (eqb j i ≡ true) ⊎ (eqb j i ≡ false) → getD t₃ (32 + j) 0 ≡ x + y
+      go : (eqb j i ≡ true) ⊎ (eqb j i ≡ false) → getD t₄ (32 + j) 0 ≡ x + y
       go (inl e) =
           let q : j ≡ i = eqb-true j i e in
-          subst (λ (z : ℕ). getD t₃ (32 + z) 0 ≡ x + y) (sym q) (sum₃ ∙ sym (sums x y (subst (λ (z : ℕ). R z x y) q r)))
-      go (inr e) = other-sum j (eqb-false j i e) ∙ B .leads j x y r .sum
+          subst (λ (z : ℕ). getD t₄ (32 + z) 0 ≡ x + y) (sym q) (sum₄ ∙ sym (sums x y (subst (λ (z : ℕ). R z x y) q r)))
+      go (inr e) = other-sum j (B .leads j x y r .place) (eqb-false j i e) ∙ B .leads j x y r .sum
 
-  kept-new : Kept t₃ i a b
+  kept-new : Kept t₄ i a b
   kept-new =
       record {
         place = li;
@@ -144,48 +171,63 @@ module _ (R : ℕ → ℕ → ℕ → Type 0) (t : List ℕ) (B : Built R t) (i 
         far = lb;
         from = ap (λ (w : ℕ). has w i) (past (16 + a) (omega arith)) ∙ put-has t₁ (16 + a) i h₂ li;
         to = ap (λ (w : ℕ). has w i) (past b (omega arith)) ∙ put-keeps t₁ (16 + a) i h₂ li b i (put-has t b i h₁ li);
-        sum = sum₃;
+        beside = ap (λ (w : ℕ). has w a) (past-from b) ∙ put-has t₂ (81 + b) a h₃ la′;
+        sum = sum₄;
       }
 
-  small₃ : (n : ℕ) → n < 32 → getD t₃ n 0 < 2 ^ 48
-  small₃ n l = subst (λ (z : ℕ). z < 2 ^ 48) (sym (past n l)) (put-small t₁ (16 + a) i h₂ li n (put-small t b i h₁ li n (B .small n l)))
+  small₄ : (n : ℕ) → n < 32 → getD t₄ n 0 < 2 ^ 48
+  small₄ n l = subst (λ (z : ℕ). z < 2 ^ 48) (sym (past n l)) (put-small t₁ (16 + a) i h₂ li 48 li (omega arith) n (put-small t b i h₁ li 48 li (omega arith) n (B .small n l)))
 
-  ins₃ : (j f : ℕ) → f < 16 → has (getD t₃ f 0) j ≡ true → (x : ℕ) × S j x f
-  ins₃ j f l e = go (came f j (omega arith) e)
+  few₄ : (f : ℕ) → f < 16 → getD t₄ (81 + f) 0 < 2 ^ 16
+  few₄ f l =
+      subst (λ (z : ℕ). z < 2 ^ 16) (sym (past-from f))
+      (put-small t₂ (81 + b) a h₃ la′ 16 la (omega arith) (81 + f) (subst (λ (z : ℕ). z < 2 ^ 16) (sym (was-from f)) (B .few f l)))
+
+  froms₄ : (x f : ℕ) → f < 16 → has (getD t₄ (81 + f) 0) x ≡ true → (j : ℕ) × S j x f
+  froms₄ x f l e = go (put-was t₂ (81 + b) a h₃ la′ (81 + f) x (ap (λ (w : ℕ). has w x) (sym (past-from f)) ∙ e))
+    where
+      go : (has (getD t₂ (81 + f) 0) x ≡ true) ⊎ ((81 + f ≡ 81 + b) × (x ≡ a)) → (j : ℕ) × S j x f
+      go (inl z) = let w = B .froms x f l (ap (λ (w : ℕ). has w x) (sym (was-from f)) ∙ z) in (w .0, inl (w .1))
+      go (inr (y, z)) = (i, inr (record { link = refl; near = z; far = omega arith }))
+
+  ins₄ : (j f : ℕ) → f < 16 → has (getD t₄ f 0) j ≡ true → (x : ℕ) × S j x f
+  ins₄ j f l e = go (came f j (omega arith) e)
     where
       go : Came f j → (x : ℕ) × S j x f
       go (was z) = let w = B .ins j f l z in (w .0, inl (w .1))
       go (into x y) = (a, inr (record { link = y; near = refl; far = x }))
       go (out x y) = absurd (omega arith)
 
-  outs₃ : (j x : ℕ) → x < 16 → has (getD t₃ (16 + x) 0) j ≡ true → (f : ℕ) × S j x f
-  outs₃ j x l e = go (came (16 + x) j (omega arith) e)
+  outs₄ : (j x : ℕ) → x < 16 → has (getD t₄ (16 + x) 0) j ≡ true → (f : ℕ) × S j x f
+  outs₄ j x l e = go (came (16 + x) j (omega arith) e)
     where
       go : Came (16 + x) j → (f : ℕ) × S j x f
       go (was z) = let w = B .outs j x l z in (w .0, inl (w .1))
       go (into p y) = absurd (omega arith)
       go (out p y) = (b, inr (record { link = y; near = omega arith; far = refl }))
 
-  unused₃ : (j : ℕ) → j < 48 → ((x y : ℕ) → S j x y → ⊥) → getD t₃ (32 + j) 0 ≡ 0
-  unused₃ j l never = other-sum j (λ e. never a b (inr (record { link = e; near = refl; far = refl }))) ∙ B .unused j l (λ x y r. never x y (inl r))
+  unused₄ : (j : ℕ) → j < 48 → ((x y : ℕ) → S j x y → ⊥) → getD t₄ (32 + j) 0 ≡ 0
+  unused₄ j l never = other-sum j l (λ e. never a b (inr (record { link = e; near = refl; far = refl }))) ∙ B .unused j l (λ x y r. never x y (inl r))
 
   linked-built : Built S (linked t i a b)
   unfolding linked
   linked-built =
       record {
-        size = length-set t₂ (32 + i) (a + b) ∙ s₂;
-        small = small₃;
-        ins = ins₃;
-        outs = outs₃;
+        size = length-set t₃ (32 + i) (a + b) ∙ s₃;
+        small = small₄;
+        few = few₄;
+        ins = ins₄;
+        outs = outs₄;
+        froms = froms₄;
         leads = λ j x y s. kept j x y s;
-        unused = unused₃;
+        unused = unused₄;
       }
     where
-      kept : (j x y : ℕ) → S j x y → Kept t₃ j x y
+      kept : (j x y : ℕ) → S j x y → Kept t₄ j x y
       kept j x y (inl r) = kept-old j x y r
       kept j x y (inr h) =
-          subst (λ (z : ℕ). Kept t₃ z x y) (sym (h .link))
-          (subst (λ (z : ℕ). Kept t₃ i z y) (sym (h .near)) (subst (λ (z : ℕ). Kept t₃ i a z) (sym (h .far)) kept-new))
+          subst (λ (z : ℕ). Kept t₄ z x y) (sym (h .link))
+          (subst (λ (z : ℕ). Kept t₄ i z y) (sym (h .near)) (subst (λ (z : ℕ). Kept t₄ i a z) (sym (h .far)) kept-new))
 
 -- ---- one call of lead
 
@@ -223,19 +265,21 @@ zero-word (suc n) zero = refl
 zero-word (suc n) (suc m) = zero-word n m
 
 -- no links: all zeros
-pub none-built : (R : ℕ → ℕ → ℕ → Type 0) → ((i a f : ℕ) → R i a f → ⊥) → Built R (replicate 81 0)
+pub none-built : (R : ℕ → ℕ → ℕ → Type 0) → ((i a f : ℕ) → R i a f → ⊥) → Built R (replicate 97 0)
 none-built R never =
     record {
       size = refl;
-      small = λ n l. subst (λ (z : ℕ). z < 2 ^ 48) (sym (zero-word 81 n)) (omega arith);
+      small = λ n l. subst (λ (z : ℕ). z < 2 ^ 48) (sym (zero-word 97 n)) (omega arith);
+      few = λ f l. subst (λ (z : ℕ). z < 2 ^ 16) (sym (zero-word 97 (81 + f))) (omega arith);
       ins = λ i f l e. absurd (dark f i e);
       outs = λ i a l e. absurd (dark (16 + a) i e);
+      froms = λ a f l e. absurd (dark (81 + f) a e);
       leads = λ i a f r. absurd (never i a f r);
-      unused = λ i l h. zero-word 81 (32 + i);
+      unused = λ i l h. zero-word 97 (32 + i);
     }
   where
-    dark : (q j : ℕ) → has (getD (replicate 81 0) q 0) j ≡ true → ⊥
-    dark q j e = both-ways e (ap (λ (w : ℕ). has w j) (zero-word 81 q) ∙ has-none j)
+    dark : (q j : ℕ) → has (getD (replicate 97 0) q 0) j ≡ true → ⊥
+    dark q j e = both-ways e (ap (λ (w : ℕ). has w j) (zero-word 97 q) ∙ has-none j)
 
 -- ---- lead, return by return
 

@@ -19,7 +19,7 @@ use Rattle.route_links.specs.Contracts.{Covers}
 use Rattle.route_links.proofs.Digits.{has-without, low-has, low-not}
 use Rattle.route_links.proofs.Places.{where-skip}
 
-none-in : (l : List (List ℕ)) → ((r : List ℕ) → List·Memᴰ r l → ⊥) → l ≡ []
+pub none-in : (l : List (List ℕ)) → ((r : List ℕ) → List·Memᴰ r l → ⊥) → l ≡ []
 none-in [] h = refl
 none-in (r ∷ l) h = absurd (h r (List·Memᴰ·head refl))
 

@@ -5,12 +5,12 @@ use mathlib.Core.Logic.{_⊎_, inl, inr}
 use Prim.Native.Nat.{ℕ, zero, suc, _+_, _-_, _*_, _/_, _%_, _^_, _<_, _≤_, max, min}
 use native.Mathlib.Omega.{arith}
 use native.Mathlib.Nat.{mod-lt, zero-lt-suc, div-one, pow-succ', div-div-eq-div-mul, mod-eq-of-lt, lt-of-le-of-lt}
-use borrow.Author.Tests.{eqb-true}
+use borrow.Author.Tests.{eqb-true, eqb-false, ltb-true, ltb-false}
 use lib.Bits.{bitAnd, bitOr, bitXor, and-step, or-step, xor-step, and-shr, or-shr, xor-shr, differ, shifted-half, shifted-even, or-lt, xor-lt, and-le-l}
 use lib.Count.{trailingZeros, under}
-use lib.Dec.{eqb, eqb·zero-suc, eqb·suc-zero, eqb·suc-suc}
+use lib.Dec.{eqb, ltb, eqb·zero-suc, eqb·suc-zero, eqb·suc-suc}
 use lib.Pow.{pow-mono}
-use Rattle.lists.proofs.Bools.{and-left}
+use Rattle.lists.proofs.Bools.{and-left, both-ways}
 use Rattle.route.proofs.Tests.{either}
 use Rattle.route_links.specs.Sets.{has}
 use Rattle.route_links.specs.Contracts.{alone}
@@ -108,6 +108,17 @@ pub has-suc : (w i : ℕ) → has w (suc i) ≡ has (w / 2) i
 unfolding has
 has-suc w i = ap (λ (z : ℕ). eqb (w / z % 2) 1) (pow-succ' 2 i) ∙ ap (λ (z : ℕ). eqb (z % 2) 1) (sym (div-div-eq-div-mul w 2 (2 ^ i)))
 
+-- digit k + i is digit i of the word shifted by k
+pub has-shifted : (k w i : ℕ) → has (w / 2 ^ k) i ≡ has w (k + i)
+has-shifted zero w i = let e : zero + i ≡ i = omega arith in ap (λ (z : ℕ). has z i) (div-one w) ∙ ap (has w) (sym e)
+has-shifted (suc k) w i =
+    let e : suc k + i ≡ suc (k + i) = omega arith in
+    ap (λ (z : ℕ). has (w / z) i) (pow-succ' 2 k)
+    ∙ ap (λ (z : ℕ). has z i) (sym (div-div-eq-div-mul w 2 (2 ^ k)))
+    ∙ has-shifted k (w / 2) i
+    ∙ sym (has-suc w (k + i))
+    ∙ ap (has w) (sym e)
+
 pub has-low : (w : ℕ) → has w 0 ≡ eqb (w % 2) 1
 unfolding has
 has-low w = ap (λ (z : ℕ). eqb (z % 2) 1) (div-one w)
@@ -115,6 +126,10 @@ has-low w = ap (λ (z : ℕ). eqb (z % 2) 1) (div-one w)
 pub has-none : (i : ℕ) → has 0 i ≡ false
 has-none zero = has-low 0
 has-none (suc i) = has-suc 0 i ∙ has-none i
+
+pub has-positive : (w i : ℕ) → has w i ≡ true → 0 < w
+has-positive zero i h = absurd (both-ways h (has-none i))
+has-positive (suc w) i h = omega arith
 
 has-one : (k i : ℕ) → has (1 * 2 ^ k) i ≡ eqb i k
 has-one zero zero = has-low 1
@@ -137,6 +152,38 @@ pub has-past : (k w i : ℕ) → w < 2 ^ k → k ≤ i → has w i ≡ false
 has-past zero w i h l = let z : w ≡ 0 = omega arith in ap (λ (v : ℕ). has v i) z ∙ has-none i
 has-past (suc k) w zero h l = absurd (omega arith)
 has-past (suc k) w (suc i) h l = has-suc w i ∙ has-past k (w / 2) i (half-less w (2 ^ k) (rw (pow-succ' 2 k) at h)) (omega arith)
+
+pub digit-below : (k w i : ℕ) → w < 2 ^ k → has w i ≡ true → i < k
+digit-below k w i h e = go (either (ltb i k))
+  where
+    go : (ltb i k ≡ true) ⊎ (ltb i k ≡ false) → i < k
+    go (inl q) = ltb-true i k q
+    go (inr q) = absurd (both-ways e (has-past k w i h (ltb-false i k q)))
+
+-- a word that has no digit at k or later is below 2 ^ k
+no-digits : (m w : ℕ) → w < 2 ^ m → ((i : ℕ) → has w i ≡ false) → w ≡ 0
+no-digits zero w h none = omega arith
+no-digits (suc m) w h none =
+    let q : w / 2 ≡ 0 = no-digits m (w / 2) (half-less w (2 ^ m) (rw (pow-succ' 2 m) at h)) (λ i. sym (has-suc w i) ∙ none (suc i)) in
+    let e : eqb (w % 2) 1 ≡ false = sym (has-low w) ∙ none 0 in
+    let z : ¬ (w % 2 ≡ 1) = eqb-false (w % 2) 1 e in
+    omega (arith, two w)
+
+within : (k m w : ℕ) → w < 2 ^ m → ((i : ℕ) → k ≤ i → has w i ≡ false) → w < 2 ^ k
+within zero m w h none = let z = no-digits m w h (λ i. none i (omega arith)) in omega arith
+within (suc k) m w h none =
+    let l : w / 2 < 2 ^ m = omega arith in
+    let q : w / 2 < 2 ^ k = within k m (w / 2) l (λ i j. sym (has-suc w i) ∙ none (suc i) (omega arith)) in
+    let r : 2 ^ suc k ≡ 2 * 2 ^ k = pow-succ' 2 k in
+    omega arith
+
+-- any word is below some power
+pub some-power : (w : ℕ) → w < 2 ^ w
+some-power zero = omega arith
+some-power (suc w) = let r : 2 ^ suc w ≡ 2 * 2 ^ w = pow-succ' 2 w in let h = some-power w in omega arith
+
+pub past-small : (k w : ℕ) → ((i : ℕ) → k ≤ i → has w i ≡ false) → w < 2 ^ k
+past-small k w none = within k w w (some-power w) none
 
 -- ---- one digit alone
 
@@ -212,6 +259,9 @@ lowest-is (suc d) w h k = go (w % 2) refl (two w) (λ e. lowest-is d (w / 2) (ha
     go (suc zero) e l ih = has-low w ∙ ap (λ (z : ℕ). eqb z 1) e
     go (suc (suc r)) e l ih = absurd (omega arith)
 
+pub some-digit : (w : ℕ) → 0 < w → (i : ℕ) × (has w i ≡ true)
+some-digit w h = (trailingZeros w w, lowest-is w w h (some-power w))
+
 -- ---- the digits below k
 
 low-half : (k : ℕ) → (2 ^ suc k - 1) / 2 ≡ 2 ^ k - 1
@@ -229,3 +279,33 @@ pub low-not : (k j : ℕ) → k ≤ j → has (2 ^ k - 1) j ≡ false
 low-not zero j h = has-none j
 low-not (suc k) zero h = absurd (omega arith)
 low-not (suc k) (suc j) h = has-suc (2 ^ suc k - 1) j ∙ ap (λ (z : ℕ). has z j) (low-half k) ∙ low-not k j (omega arith)
+
+-- ---- words with one digit
+
+-- a word that has no digit in common with the one before it has no two digits
+less-half : (w : ℕ) → 0 < w → w % 2 ≡ 0 → (w - 1) / 2 ≡ w / 2 - 1
+less-half w h e = omega arith
+
+same-half : (w : ℕ) → w % 2 ≡ 1 → (w - 1) / 2 ≡ w / 2
+same-half w e = omega arith
+
+odd-one : (w j : ℕ) → w % 2 ≡ 1 → bitAnd w (w - 1) ≡ 0 → has w (suc j) ≡ true → ⊥
+odd-one w j e z h =
+    both-ways
+    (has-and w (w - 1) (suc j) ∙ rw h (has-suc (w - 1) j ∙ ap (λ (v : ℕ). has v j) (same-half w e) ∙ sym (has-suc w j) ∙ h))
+    (ap (λ (v : ℕ). has v (suc j)) z ∙ has-none (suc j))
+
+pub one-digit : (w i j : ℕ) → bitAnd w (w - 1) ≡ 0 → has w i ≡ true → has w j ≡ true → i ≡ j
+one-digit w zero zero z h k = refl
+one-digit w zero (suc j) z h k = absurd (odd-one w j (eqb-true (w % 2) 1 (sym (has-low w) ∙ h)) z k)
+one-digit w (suc i) zero z h k = absurd (odd-one w i (eqb-true (w % 2) 1 (sym (has-low w) ∙ k)) z h)
+one-digit w (suc i) (suc j) z h k = go (w % 2) refl (two w) (λ q. one-digit (w / 2) i j q (sym (has-suc w i) ∙ h) (sym (has-suc w j) ∙ k))
+  where
+    go : (r : ℕ) → w % 2 ≡ r → w % 2 < 2 → (bitAnd (w / 2) (w / 2 - 1) ≡ 0 → i ≡ j) → suc i ≡ suc j
+    go zero e l ih =
+        let p : 0 < w = has-positive w (suc i) h in
+        let s : bitAnd w (w - 1) ≡ bitAnd (w / 2) ((w - 1) / 2) * 2 + min (w % 2) ((w - 1) % 2) = and-step w (w - 1) in
+        let q : bitAnd (w / 2) ((w - 1) / 2) ≡ 0 = omega arith in
+        ap suc (ih (ap (bitAnd (w / 2)) (sym (less-half w p e)) ∙ q))
+    go (suc zero) e l ih = absurd (odd-one w i e z h)
+    go (suc (suc r)) e l ih = absurd (omega arith)

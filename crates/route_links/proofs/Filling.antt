@@ -98,7 +98,7 @@ module _ (ends : List (List ℕ)) (ways : List ℕ) (links to : ℕ) where
         sums x y (inl u) = absurd (none-yet x y u)
         sums x y (inr d) = let f = d .this .near in let g = d .this .far in omega arith
 
-  pub start-built : Built (Usable G 0) (replicate 81 0)
+  pub start-built : Built (Usable G 0) (replicate 97 0)
   start-built = none-built (Usable G 0) (λ i a f u. absurd (let z = u .below in omega arith))
 
 -- ---- the loop's test, and its end
@@ -121,14 +121,19 @@ goal-built R t v B =
     record {
       size = length-set t 80 v ∙ B .size;
       small = λ n l. subst (λ (w : ℕ). w < 2 ^ 48) (sym (other n (omega arith))) (B .small n l);
+      few = λ f l. subst (λ (w : ℕ). w < 2 ^ 16) (sym (from f)) (B .few f l);
       ins = λ i f m e. B .ins i f m (sym (same f i (omega arith)) ∙ e);
       outs = λ i a m e. B .outs i a m (sym (same (16 + a) i (omega arith)) ∙ e);
+      froms = λ a f m e. B .froms a f m (ap (λ (z : ℕ). has z a) (sym (from f)) ∙ e);
       leads = λ i a f r. kept i a f (B .leads i a f r);
       unused = λ i l h. other (32 + i) (omega arith) ∙ B .unused i l h;
     }
   where
     other : (n : ℕ) → n < 80 → getD (set t 80 v) n 0 ≡ getD t n 0
     other n l = getD-set-other t 80 n v 0 (λ e. absurd (omega arith))
+
+    from : (f : ℕ) → getD (set t 80 v) (81 + f) 0 ≡ getD t (81 + f) 0
+    from f = getD-set-other t 80 (81 + f) v 0 (λ e. absurd (omega arith))
 
     same : (n j : ℕ) → n < 80 → has (getD (set t 80 v) n 0) j ≡ has (getD t n 0) j
     same n j l = ap (λ (z : ℕ). has z j) (other n l)
@@ -144,6 +149,7 @@ goal-built R t v B =
           far = z;
           from = same (16 + a) i (omega arith) ∙ k .from;
           to = same f i (omega arith) ∙ k .to;
+          beside = ap (λ (w : ℕ). has w a) (from f) ∙ k .beside;
           sum = other (32 + i) (omega arith) ∙ k .sum;
         }
 

@@ -3,16 +3,17 @@ use mathlib.Core.Path.{_≡_, refl, sym, _∙_, ap, subst}
 use mathlib.Core.Logic.{_⊎_, inl, inr}
 use mathlib.Core.Bool.{Bool, true, false, _&&_, cond}
 use mathlib.Core.List.{[], _∷_, List·Memᴰ, List·Memᴰ·head, List·Memᴰ·tail}
-use Prim.Native.Nat.{ℕ, zero, suc, _+_, _^_, _<_, _≤_}
+use Prim.Native.Nat.{ℕ, zero, suc, _+_, _-_, _^_, _<_, _≤_}
 use native.Mathlib.Omega.{arith}
 use borrow.Author.Tests.{eqb-true, eqb-false, eq-eqb, ne-eqb, leb-true, leb-false}
 use lib.Bits.{bitXor}
 use lib.Dec.{eqb, leb}
-use Rattle.lists.proofs.Bools.{both-ways, both-same}
+use lib.Pow.{pow-mono}
+use Rattle.lists.proofs.Bools.{both-ways, both-same, no-true}
 use Rattle.route.proofs.Tests.{either}
 use Rattle.route_links.specs.Sets.{has, whereFrom, placesIn, SetOf}
 use Rattle.route_links.specs.Contracts.{alone}
-use Rattle.route_links.proofs.Digits.{has-less, has-none, has-past}
+use Rattle.route_links.proofs.Digits.{has-less, has-none, has-past, digit-below, past-small}
 
 module _ (p : ℕ → Bool) where
   pub where-same : (q : ℕ → Bool) (i n : ℕ) → ((j : ℕ) → i ≤ j → p j ≡ q j) → whereFrom p i n ≡ whereFrom q i n
@@ -21,6 +22,13 @@ module _ (p : ℕ → Bool) where
   where-same q i (suc n) h =
       ap (λ b. cond b (i ∷ whereFrom p (suc i) n) (whereFrom p (suc i) n)) (h i (omega arith))
       ∙ ap (λ l. cond (q i) (i ∷ l) l) (where-same q (suc i) n (λ j l. h j (omega arith)))
+
+  pub where-alike : (q : ℕ → Bool) (i n : ℕ) → ((j : ℕ) → j < i + n → p j ≡ q j) → whereFrom p i n ≡ whereFrom q i n
+  unfolding whereFrom
+  where-alike q i zero h = refl
+  where-alike q i (suc n) h =
+      ap (λ b. cond b (i ∷ whereFrom p (suc i) n) (whereFrom p (suc i) n)) (h i (omega arith))
+      ∙ ap (λ l. cond (q i) (i ∷ l) l) (where-alike q (suc i) n (λ j l. h j (omega arith)))
 
   -- none where the test never holds
   pub where-none : (i n : ℕ) → ((j : ℕ) → i ≤ j → p j ≡ false) → whereFrom p i n ≡ []
@@ -72,6 +80,15 @@ module _ (p : ℕ → Bool) where
       go true q (List·Memᴰ·tail k) ih = ih k
       go false q k ih = ih k
 
+  pub where-below : (i n j : ℕ) → List·Memᴰ j (whereFrom p i n) → j < i + n
+  unfolding whereFrom
+  where-below i (suc n) j m = go (p i) m (λ k. where-below (suc i) n j k)
+    where
+      go : (b : Bool) → List·Memᴰ j (cond b (i ∷ whereFrom p (suc i) n) (whereFrom p (suc i) n)) → (List·Memᴰ j (whereFrom p (suc i) n) → j < suc i + n) → j < i + suc n
+      go true (List·Memᴰ·head e) ih = omega arith
+      go true (List·Memᴰ·tail k) ih = let z = ih k in omega arith
+      go false k ih = let z = ih k in omega arith
+
 -- ---- sets
 
 -- the same places by two tests, each of which holds nowhere past its own end
@@ -106,6 +123,38 @@ set-is p n w S past i = both-same (has w i) (p i) there back
 pub is-set : (p : ℕ → Bool) (n w : ℕ) → w < 2 ^ 48 → ((i : ℕ) → n ≤ i → p i ≡ false) → ((i : ℕ) → has w i ≡ p i) → SetOf (whereFrom p 0 n) w
 unfolding placesIn
 is-set p n w small past e = record { small = small; places = where-equal (has w) p 48 n e (λ i l. has-past 48 w i small l) past }
+
+-- the same for a test that counts only below n
+module _ (p : ℕ → Bool) (m n w : ℕ) (same : m ≡ n) where
+  pub set-below-is : n ≤ 48 → SetOf (whereFrom p 0 m) w → (i : ℕ) → i < n → has w i ≡ p i
+  unfolding placesIn
+  set-below-is h S i l =
+      both-same (has w i) (p i)
+      (λ e. has-where p 0 m i (subst (λ l. List·Memᴰ i l) (S .places) (where-has (has w) 0 48 i (omega arith) (omega arith) e)))
+      (λ e. has-where (has w) 0 48 i (subst (λ l. List·Memᴰ i l) (sym (S .places)) (where-has p 0 m i (omega arith) (omega arith) e)))
+
+  pub is-set-below : n ≤ 48 → w < 2 ^ n → ((i : ℕ) → i < n → has w i ≡ p i) → SetOf (whereFrom p 0 m) w
+  unfolding placesIn
+  is-set-below h small e =
+      let k : 2 ^ n ≤ 2 ^ 48 = pow-mono h in
+      let z : n + (48 - n) ≡ 48 = omega arith in
+      record {
+        small = omega arith;
+        places = ap (λ (k : ℕ). whereFrom (has w) 0 k) (sym z)
+            ∙ where-past (has w) 0 n (48 - n) (λ i l. has-past n w i small (omega arith))
+            ∙ where-alike (has w) p 0 n (λ i l. e i (omega arith))
+            ∙ ap (λ (k : ℕ). whereFrom p 0 k) (sym same);
+      }
+
+  pub set-few : SetOf (whereFrom p 0 m) w → w < 2 ^ n
+  unfolding placesIn
+  set-few S = past-small n w (λ i l. no-true (λ e. past i l e))
+    where
+      past : (i : ℕ) → n ≤ i → has w i ≡ true → ⊥
+      past i l e =
+          let b = digit-below 48 w i (S .small) e in
+          let z = where-below p 0 m i (subst (λ l. List·Memᴰ i l) (S .places) (where-has (has w) 0 48 i (omega arith) (omega arith) e)) in
+          absurd (omega arith)
 
 pub places-none : placesIn 0 ≡ []
 unfolding placesIn

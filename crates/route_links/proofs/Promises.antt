@@ -4,7 +4,7 @@ use mathlib.Core.Logic.{_⊎_, inl, inr}
 use mathlib.Core.Bool.{true, false}
 use mathlib.Core.Option.{Option, none, some}
 use mathlib.Core.List.{List, List·Memᴰ}
-use Prim.Native.Nat.{ℕ, zero, suc, _+_, _-_, _/_, _%_, _^_, _<_, _≤_}
+use Prim.Native.Nat.{ℕ, zero, suc, _+_, _-_, _/_, _%_, _^_, _<_}
 use native.Mathlib.Omega.{arith}
 use native.Mathlib.Nat.{pow-succ'}
 use borrow.Author.Tests.{eqb-true, eqb-false, ltb-true, ltb-false}
@@ -84,25 +84,33 @@ module _ (G : Net) (t u : List ℕ) (T : ByNode G t) (U : ByNode G u) where
           let none : (a : ℕ) → a < 16 → leadsOut G a i ≡ false = λ a l. any-false (λ a. leadsOut G a i) 16 a b l in
           T .unused i none h ∙ sym (U .unused i none h)
 
-  place : (n : ℕ) → n < 81 → getD t n 0 ≡ getD u n 0
-  place n h = row (either (ltb n 16)) (either (ltb n 32)) (either (ltb n 80))
+  place : (n : ℕ) → n < 97 → getD t n 0 ≡ getD u n 0
+  place n h = row (either (ltb n 16)) (either (ltb n 32)) (either (ltb n 80)) (either (ltb n 81))
     where
-      row : (ltb n 16 ≡ true) ⊎ (ltb n 16 ≡ false) → (ltb n 32 ≡ true) ⊎ (ltb n 32 ≡ false) → (ltb n 80 ≡ true) ⊎ (ltb n 80 ≡ false) → getD t n 0 ≡ getD u n 0
-      row (inl a) b c = sets-one _ _ _ (T .into n (ltb-true n 16 a)) (U .into n (ltb-true n 16 a))
-      row (inr a) (inl b) c =
+      row : (ltb n 16 ≡ true) ⊎ (ltb n 16 ≡ false) → (ltb n 32 ≡ true) ⊎ (ltb n 32 ≡ false) → (ltb n 80 ≡ true) ⊎ (ltb n 80 ≡ false)
+          → (ltb n 81 ≡ true) ⊎ (ltb n 81 ≡ false) → getD t n 0 ≡ getD u n 0
+      row (inl a) b c d = sets-one _ _ _ (T .into n (ltb-true n 16 a)) (U .into n (ltb-true n 16 a))
+      row (inr a) (inl b) c d =
           let x = ltb-false n 16 a in
           let y = ltb-true n 32 b in
           let e : 16 + (n - 16) ≡ n = omega (arith, x) in
           let l : n - 16 < 16 = omega (arith, x, y) in
           subst (λ (m : ℕ). getD t m 0 ≡ getD u m 0) e (sets-one _ _ _ (T .out (n - 16) l) (U .out (n - 16) l))
-      row (inr a) (inr b) (inl c) =
+      row (inr a) (inr b) (inl c) d =
           let x = ltb-false n 32 b in
           let y = ltb-true n 80 c in
           let e : 32 + (n - 32) ≡ n = omega (arith, x) in
           subst (λ (m : ℕ). getD t m 0 ≡ getD u m 0) e (sum-one (n - 32) (omega (arith, x, y)))
-      row (inr a) (inr b) (inr c) =
-          let e : 80 ≡ n = let x = ltb-false n 80 c in omega (arith, x, h) in
+      row (inr a) (inr b) (inr c) (inl d) =
+          let x = ltb-false n 80 c in
+          let y = ltb-true n 81 d in
+          let e : 80 ≡ n = omega (arith, x, y) in
           subst (λ (m : ℕ). getD t m 0 ≡ getD u m 0) e (T .goal ∙ sym (U .goal))
+      row (inr a) (inr b) (inr c) (inr d) =
+          let x = ltb-false n 81 d in
+          let e : 81 + (n - 81) ≡ n = omega (arith, x) in
+          let l : n - 81 < 16 = omega (arith, x, h) in
+          subst (λ (m : ℕ). getD t m 0 ≡ getD u m 0) e (sets-one _ _ _ (T .from (n - 81) l) (U .from (n - 81) l))
 
 pub table-one : OneTable
 table-one G t u T U = ext-getD 0 t u (T .size ∙ sym (U .size)) (λ n h. place G t u T U n (let s = T .size in omega (arith, s, h)))

@@ -3,7 +3,7 @@ use mathlib.Core.Path.{_≡_, refl, sym, _∙_, ap, subst}
 use mathlib.Core.Logic.{_⊎_, inl, inr}
 use mathlib.Core.Bool.{true, false}
 use mathlib.Core.List.{List}
-use Prim.Native.Nat.{ℕ, _^_, _<_}
+use Prim.Native.Nat.{ℕ, _^_, _<_, _≤_}
 use native.Mathlib.Omega.{arith}
 use borrow.Author.Tests.{eqb-true, eqb-false, eq-eqb}
 use lib.Bits.{bitOr}
@@ -29,16 +29,16 @@ module _ (t : List ℕ) (p k : ℕ) where
     unfolding putIn
     here = getD-set-same t p (bitOr (getD t p 0) (alone k)) 0 inside
 
-    pub put-small : (n : ℕ) → getD t n 0 < 2 ^ 48 → getD (putIn t p k) n 0 < 2 ^ 48
-    put-small n w = go (either (eqb n p))
+    pub put-small : (m : ℕ) → k < m → m ≤ 64 → (n : ℕ) → getD t n 0 < 2 ^ m → getD (putIn t p k) n 0 < 2 ^ m
+    put-small m low high n w = go (either (eqb n p))
       where
-        go : (eqb n p ≡ true) ⊎ (eqb n p ≡ false) → getD (putIn t p k) n 0 < 2 ^ 48
+        go : (eqb n p ≡ true) ⊎ (eqb n p ≡ false) → getD (putIn t p k) n 0 < 2 ^ m
         go (inl e) =
             let q : n ≡ p = eqb-true n p e in
-            let v : getD t p 0 < 2 ^ 48 = subst (λ (z : ℕ). getD t z 0 < 2 ^ 48) q w in
-            subst (λ (z : ℕ). getD (putIn t p k) z 0 < 2 ^ 48) (sym q)
-            (subst (λ (z : ℕ). z < 2 ^ 48) (sym here) (or-small 48 (getD t p 0) (alone k) v (alone-small k 48 small (omega arith))))
-        go (inr e) = subst (λ (z : ℕ). z < 2 ^ 48) (sym (put-other n (eqb-false n p e))) w
+            let v : getD t p 0 < 2 ^ m = subst (λ (z : ℕ). getD t z 0 < 2 ^ m) q w in
+            subst (λ (z : ℕ). getD (putIn t p k) z 0 < 2 ^ m) (sym q)
+            (subst (λ (z : ℕ). z < 2 ^ m) (sym here) (or-small m (getD t p 0) (alone k) v (alone-small k m low high)))
+        go (inr e) = subst (λ (z : ℕ). z < 2 ^ m) (sym (put-other n (eqb-false n p e))) w
 
     pub put-keeps : (q j : ℕ) → has (getD t q 0) j ≡ true → has (getD (putIn t p k) q 0) j ≡ true
     put-keeps q j h = go (either (eqb q p))

@@ -122,35 +122,34 @@ module _ (t : List ℕ) (f gone d : ℕ) (S : Standing t f gone d) where
     pub says : ¬ (f ≡ getD t 80 0)
         → tries (netOf t) (λ g. routesOn t g (goneAfter t gone f)) f (metOf (goneAfter t gone f)) (linksFrom (netOf t) j) ≡ routesBy t f (goneAfter t gone f) links
 
-  pub left : (links j : ℕ) → j ≤ 48 → Covers (netOf t) links f (metOf (goneAfter t gone f)) j → links < 2 ^ 48 → Left links j
+  pub left : (links j : ℕ) → j ≤ 48 → Covers (netOf t) links f (metOf (goneAfter t gone f)) j
+      → ((i : ℕ) → has links i ≡ true → (r : List ℕ) × IsRoute (netOf t) f (metOf (goneAfter t gone f)) (i ∷ r)) → links < 2 ^ 48 → Left links j
   unfolding netOf placesIn routesOn routesBy
-  left links j h C l =
+  left links j h C begins l =
       let F = fewer in
       let D = S .depth in
       record {
-        chooses = record { table = S .table; node = S .node; known = gone-known; opens = C .opens; depth = omega arith; small = l };
+        chooses = record { table = S .table; node = S .node; known = gone-known; begins = begins; depth = omega arith; small = l };
         says = λ ne. covered (netOf t) (table-sound t (S .table)) links f (metOf then) j ne C h;
       }
 
   pub links-small : linksOn t gone f < 2 ^ 48
   links-small = let l = S .node in without-small 48 (getD t (16 + f) 0) gone (S .table .small (16 + f) (omega arith))
 
-  -- all links that lead on
+  -- any that covers all routes from f
   pub record Going (links : ℕ) : Type 0 where
     pub chooses : Choosing t f (goneAfter t gone f) links d
     pub says : ¬ (f ≡ getD t 80 0) → routesOn t f gone ≡ routesBy t f (goneAfter t gone f) links
 
-  pub going-by : (links : ℕ) → Covers (netOf t) links f (metOf (goneAfter t gone f)) 0 → links < 2 ^ 48 → Going links
+  pub going-by : (links : ℕ) → Covers (netOf t) links f (metOf (goneAfter t gone f)) 0
+      → ((i : ℕ) → has links i ≡ true → (r : List ℕ) × IsRoute (netOf t) f (metOf (goneAfter t gone f)) (i ∷ r)) → links < 2 ^ 48 → Going links
   unfolding netOf routesOn fromLinks
-  going-by links C l =
-      let L = left links 0 (omega arith) C l in
+  going-by links C begins l =
+      let L = left links 0 (omega arith) C begins l in
       record {
         chooses = L .chooses;
         says = λ ne. ap (λ m. allFrom (netOf t) f m) (sym met-after) ∙ all-on (netOf t) f (metOf then) (table-sound t (S .table)) ne ∙ L .says ne;
       }
-
-  pub going : Going (linksOn t gone f)
-  going = going-by (linksOn t gone f) opened links-small
 
   pub standing-room : d ≤ 15
   standing-room = let e = fewer in let k = S .depth in omega arith
@@ -161,7 +160,7 @@ pub routes-here : (t : List ℕ) (f gone : ℕ) → f ≡ getD t 80 0 → routes
 unfolding routesOn netOf
 routes-here t f gone e = all-here (netOf t) f (also f (metOf gone)) e
 
-unmet-most : (n : ℕ) (met : ℕ → Bool) → unmet n met ≤ n
+pub unmet-most : (n : ℕ) (met : ℕ → Bool) → unmet n met ≤ n
 unfolding unmet
 unmet-most zero met = omega arith
 unmet-most (suc n) met = go (met n) (unmet-most n met)
@@ -174,7 +173,7 @@ pub start-standing : (t : List ℕ) (from : ℕ) → Walkable t → from < 16 �
 unfolding metOf Gone
 start-standing t from T h =
     let k = unmet-most 16 (metOf 0) in
-    record { table = T; node = h; fresh = has-none (48 + from); known = λ i a f q m. has-none i ∙ sym (has-none (48 + f)); depth = omega arith }
+    record { table = T; node = h; fresh = has-none (48 + from); goal = has-none (48 + netOf t .goal); known = λ i a f q m. has-none i ∙ sym (has-none (48 + f)); depth = omega arith }
 
 pub start-routes : (t : List ℕ) (from : ℕ) → routesOn t from 0 ≡ allRoutes (netOf t) from
 unfolding routesOn allRoutes only metOf

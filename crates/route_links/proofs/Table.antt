@@ -57,9 +57,11 @@ module _ (G : Net) (whole : Sound G) (nodes : G .nodes ≡ 16)
   walkable =
       record {
         small = B .small;
+        few = B .few;
         leads = λ i a f e. (let u = usable i a f e in record { kept = B .leads i a f u; apart = u .apart });
         outs = λ i a l e. (let u = B .outs i a l e in (u .0, far-of i a (u .0) (u .1)));
         ins = λ i f l e. (let u = B .ins i f l e in (u .0, far-of i (u .0) f (u .1)));
+        froms = λ a f l e. (let u = B .froms a f l e in (u .0, far-of (u .0) a f (u .1)));
         ends = λ i a f b g e k. two i a f b g (usable i a f e .leads) (usable i b g k .leads);
       }
 
@@ -94,3 +96,21 @@ table-holds ends ways links to t T =
     let G = net ends ways links to in
     let B = rows-built G refl (sound ends ways links to) (far-inside ends ways links) t T in
     holds G (sound ends ways links to) refl (two-ends ends ways links) t B (T .goal)
+
+-- a route over it is one over the arrays; and the other way round from a node that is met, as no route passes a link from a node to itself
+module _ (ends : List (List ℕ)) (ways : List ℕ) (links to : ℕ) (t : List ℕ) (T : ByNode (net ends ways links to) t) where
+  abbrev N : Net
+  N = net ends ways links to
+
+  built : Built (Usable (net ends ways links to) (net ends ways links to .links)) t
+  built = rows-built N refl (sound ends ways links to) (far-inside ends ways links) t T
+
+  pub route-there : {at : ℕ} {met : ℕ → Bool} {r : List ℕ} → IsRoute (netOf t) at met r → IsRoute (net ends ways links to) at met r
+  route-there p = there N (sound ends ways links to) refl (two-ends ends ways links) t built (T .goal) p
+
+  pub route-back : {at : ℕ} {met : ℕ → Bool} {r : List ℕ} → at < 16 → met at ≡ true → IsRoute (net ends ways links to) at met r → IsRoute (netOf t) at met r
+  route-back h m p = back N (sound ends ways links to) refl (two-ends ends ways links) t built (T .goal) h m p
+
+  pub far-kept : (i a f : ℕ) → net ends ways links to .far i a ≡ some f → a < 16 → (a ≡ f → ⊥) → netOf t .far i a ≡ some f
+  far-kept i a f e h ne =
+      far-of N (sound ends ways links to) refl (two-ends ends ways links) t built (T .goal) i a f (record { below = far-inside ends ways links i a f e; leads = e; apart = ne; node = h })

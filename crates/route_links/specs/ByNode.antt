@@ -36,7 +36,16 @@ linksOut G a = whereFrom (leadsOut G a) 0 (G .links)
 unfoldable pub linksInto : Net → ℕ → List ℕ
 linksInto G f = whereFrom (leadsInto G f) 0 (G .links)
 
--- the table's rows: a word for each node with the links into it, one with the links out of it, a number for each link, and the goal
+-- some link leads from a to f, another node
+unfoldable pub joins : Net → ℕ → ℕ → Bool
+joins G f a = anyBelow (λ i. isNode f (G .far i a)) (G .links) && not (eqb a f)
+
+-- the nodes from which one comes to f by one link, in order of place (document 02, Eleven)
+unfoldable pub nodesInto : Net → ℕ → List ℕ
+nodesInto G f = whereFrom (joins G f) 0 (G .nodes)
+
+-- the table's rows: a word for each node with the links into it, one with the links out of it, a number for each link, the goal, and a word for each node with
+-- the nodes from which one comes to it
 abbrev pub outRow : ℕ
 outRow = mostNodes
 
@@ -46,8 +55,11 @@ sumRow = outRow + mostNodes
 abbrev pub goalPlace : ℕ
 goalPlace = sumRow + mostLinks
 
+abbrev pub fromRow : ℕ
+fromRow = goalPlace + 1
+
 abbrev pub tableSize : ℕ
-tableSize = goalPlace + 1
+tableSize = fromRow + mostNodes
 
 -- the table of a net. A link's number is the sum of its two ends: less the one that one stands at, it is the other
 pub record ByNode (G : Net) (t : List ℕ) : Type 0 where
@@ -57,3 +69,4 @@ pub record ByNode (G : Net) (t : List ℕ) : Type 0 where
   pub sum : (i a f : ℕ) → a < mostNodes → G .far i a ≡ some f → leadsOut G a i ≡ true → getD t (sumRow + i) 0 ≡ a + f
   pub unused : (i : ℕ) → ((a : ℕ) → a < mostNodes → leadsOut G a i ≡ false) → i < mostLinks → getD t (sumRow + i) 0 ≡ 0
   pub goal : getD t goalPlace 0 ≡ G .goal
+  pub from : (f : ℕ) → f < mostNodes → SetOf (nodesInto G f) (getD t (fromRow + f) 0)

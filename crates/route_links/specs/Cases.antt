@@ -8,7 +8,7 @@ use Rattle.lists.specs.Places.{anyBelow}
 use Rattle.route.specs.Route.{Net}
 use Rattle.route_links.specs.Arrays.{nodePlace, isOut, isBack, otherEnd, farNode, net}
 use Rattle.route_links.specs.Sets.{has, whereFrom, placesIn}
-use Rattle.route_links.specs.ByNode.{leadsOut, leadsInto, linksOut, linksInto}
+use Rattle.route_links.specs.ByNode.{leadsOut, leadsInto, linksOut, linksInto, joins, nodesInto}
 
 -- the other end of the link from node 3 to node 5, passed in a way
 abbrev pub between : ℕ → ℕ → Option ℕ
@@ -38,9 +38,11 @@ pub record Cases : Type 0 where
   pub to-0 : linksInto five 0 ≡ 0 ∷ 1 ∷ []
   pub to-1 : linksInto five 1 ≡ 0 ∷ []
   pub to-2 : linksInto five 2 ≡ 3 ∷ []
+  -- a node counts once, however many links lead from it
+  pub nodes : (nodesInto five 0 ≡ 1 ∷ []) × (nodesInto five 1 ≡ 0 ∷ []) × (nodesInto five 2 ≡ 0 ∷ [])
 
 pub cases : Cases
-unfolding anyBelow nodePlace isOut isBack otherEnd farNode has whereFrom placesIn leadsOut leadsInto linksOut linksInto
+unfolding anyBelow nodePlace isOut isBack otherEnd farNode has whereFrom placesIn leadsOut leadsInto linksOut linksInto joins nodesInto
 cases =
     record {
       off = (refl, refl);
@@ -58,4 +60,5 @@ cases =
       to-0 = refl;
       to-1 = refl;
       to-2 = refl;
+      nodes = (refl, refl, refl);
     }

@@ -12,7 +12,7 @@ use Rattle.chart.specs.Values.{mostNodes, mostLinks}
 use Rattle.route.specs.Route.{Net, also, IsRoute}
 use Rattle.route.specs.All.{tries, unmet, allFrom, allRoutes}
 use Rattle.route_links.specs.Sets.{has, placesIn}
-use Rattle.route_links.specs.ByNode.{outRow, sumRow, goalPlace, tableSize}
+use Rattle.route_links.specs.ByNode.{outRow, sumRow, goalPlace, fromRow, tableSize}
 
 -- ---- how the table is built
 
@@ -24,9 +24,9 @@ alone i = 1 * 2 ^ i % 18446744073709551616
 unfoldable pub putIn : List ℕ → ℕ → ℕ → List ℕ
 putIn t p i = set t p (bitOr (getD t p 0) (alone i))
 
--- link i leads from a to b: into b, out of a, and the sum of the two
+-- link i leads from a to b: into b, out of a, from a to b, and the sum of the two
 unfoldable pub linked : List ℕ → ℕ → ℕ → ℕ → List ℕ
-linked t i a b = set (putIn (putIn t b i) (outRow + a) i) (sumRow + i) (a + b)
+linked t i a b = set (putIn (putIn (putIn t b i) (outRow + a) i) (fromRow + b) a) (sumRow + i) (a + b)
 
 -- it is passed so, and both are places of nodes, and two
 unfoldable pub leadsOn : ℕ → ℕ → Bool → Bool
@@ -43,14 +43,17 @@ pub record Kept (t : List ℕ) (i a f : ℕ) : Type 0 where
   pub far : f < mostNodes
   pub from : has (getD t (outRow + a) 0) i ≡ true
   pub to : has (getD t f 0) i ≡ true
+  pub beside : has (getD t (fromRow + f) 0) a ≡ true
   pub sum : getD t (sumRow + i) 0 ≡ a + f
 
 -- the table holds these links and no others
 pub record Built (R : ℕ → ℕ → ℕ → Type 0) (t : List ℕ) : Type 0 where
   pub size : length t ≡ tableSize
   pub small : (n : ℕ) → n < sumRow → getD t n 0 < 2 ^ mostLinks
+  pub few : (f : ℕ) → f < mostNodes → getD t (fromRow + f) 0 < 2 ^ mostNodes
   pub ins : (i f : ℕ) → f < mostNodes → has (getD t f 0) i ≡ true → (a : ℕ) × R i a f
   pub outs : (i a : ℕ) → a < mostNodes → has (getD t (outRow + a) 0) i ≡ true → (f : ℕ) × R i a f
+  pub froms : (a f : ℕ) → f < mostNodes → has (getD t (fromRow + f) 0) a ≡ true → (i : ℕ) × R i a f
   pub leads : (i a f : ℕ) → R i a f → Kept t i a f
   pub unused : (i : ℕ) → i < mostLinks → ((a f : ℕ) → R i a f → ⊥) → getD t (sumRow + i) 0 ≡ 0
 
@@ -86,9 +89,11 @@ pub record Leads (t : List ℕ) (i a f : ℕ) : Type 0 where
 -- the table is one that a walk can go by: each of its sets says what its net says, and a link has but two ends
 pub record Walkable (t : List ℕ) : Type 0 where
   pub small : (n : ℕ) → n < sumRow → getD t n 0 < 2 ^ mostLinks
+  pub few : (f : ℕ) → f < mostNodes → getD t (fromRow + f) 0 < 2 ^ mostNodes
   pub leads : (i a f : ℕ) → netOf t .far i a ≡ some f → Leads t i a f
   pub outs : (i a : ℕ) → a < mostNodes → has (getD t (outRow + a) 0) i ≡ true → (f : ℕ) × (netOf t .far i a ≡ some f)
   pub ins : (i f : ℕ) → f < mostNodes → has (getD t f 0) i ≡ true → (a : ℕ) × (netOf t .far i a ≡ some f)
+  pub froms : (a f : ℕ) → f < mostNodes → has (getD t (fromRow + f) 0) a ≡ true → (i : ℕ) × (netOf t .far i a ≡ some f)
   pub ends : (i a f b g : ℕ) → netOf t .far i a ≡ some f → netOf t .far i b ≡ some g → (g ≡ a) ⊎ (g ≡ f)
 
 -- the table has the routes of the net G
@@ -129,19 +134,25 @@ routesOn t f gone = allFrom (netOf t) f (also f (metOf gone))
 unfoldable pub routesBy : List ℕ → ℕ → ℕ → ℕ → List (List ℕ)
 routesBy t at gone links = tries (netOf t) (λ f. routesOn t f gone) at (metOf gone) (placesIn links)
 
--- where one stands: at the node f, which is not met yet, after d links
+-- where one stands: at the node f, which is not met yet, nor is the goal, after d links
 pub record Standing (t : List ℕ) (f gone d : ℕ) : Type 0 where
   pub table : Walkable t
   pub node : f < mostNodes
   pub fresh : metOf gone f ≡ false
+  pub goal : metOf gone (netOf t .goal) ≡ false
   pub known : Gone (netOf t) gone
   pub depth : d + unmet mostNodes (metOf gone) ≤ mostNodes
 
--- what one chooses from: links that lead on from the node at, which is met
+-- where a walk stands: a route leads on from there, so that no step was in vain
+pub record OnRoute (t : List ℕ) (f gone d : ℕ) : Type 0 where
+  pub stands : Standing t f gone d
+  pub leads : (r : List ℕ) × IsRoute (netOf t) f (also f (metOf gone)) r
+
+-- what a walk chooses from at the node at, which is met: each of these links begins a route, so that no step will be in vain
 pub record Choosing (t : List ℕ) (at gone links d : ℕ) : Type 0 where
   pub table : Walkable t
   pub node : at < mostNodes
   pub known : Gone (netOf t) gone
-  pub opens : (i : ℕ) → has links i ≡ true → (f : ℕ) × ((netOf t .far i at ≡ some f) × (metOf gone f ≡ false))
+  pub begins : (i : ℕ) → has links i ≡ true → (r : List ℕ) × IsRoute (netOf t) at (metOf gone) (i ∷ r)
   pub depth : suc (d + unmet mostNodes (metOf gone)) ≤ mostNodes
   pub small : links < 2 ^ mostLinks

@@ -9,14 +9,17 @@ ghost use Rattle.route_links.specs.Arrays.{isOut, isBack, net};
 ghost use Rattle.route_links.specs.ByNode.{tableSize, ByNode};
 ghost use Rattle.route_links.specs.Contracts.{putIn, lead};
 
-// The rows of the table: a word for each node with the links into it, one with the links out of it, a number for each link, and the goal.
+// The rows of the table: a word for each node with the links into it, one with the links out of it, a number for each link, the goal, and a word for each node
+// with the nodes from which a link leads to it.
 pub const OUT_ROW: usize = 16;
 
 pub const SUM_ROW: usize = 32;
 
 pub const GOAL: usize = 80;
 
-pub const TABLE_SIZE: usize = 81;
+pub const FROM_ROW: usize = 81;
+
+pub const TABLE_SIZE: usize = 97;
 
 // Whether a link is passed from its first end to its second.
 fn is_out(way: u8) -> bool
@@ -61,6 +64,7 @@ fn lead(t: &mut [u64; TABLE_SIZE], i: usize, a: u8, b: u8, passed: bool)
     let y = b as usize;
     put_in(t, y, i);
     put_in(t, OUT_ROW + x, i);
+    put_in(t, FROM_ROW + y, x);
     t[SUM_ROW + i] = (x + y) as u64;
 }
 

@@ -7,13 +7,16 @@ use native.Mathlib.Omega.{arith}
 use borrow.Author.Tests.{lt-ltb, le-ltb, ltb-true, ltb-false}
 use lib.Dec.{ltb}
 use lib.ListN.{length, take, drop, replicate, length-take, take-append-drop}
-use lib.Seq.{sets, take-all, length-take-le, drop-append-le, take-nil}
+use lib.Seq.{sets, take-all, length-take-le, drop-append-le}
 use Rattle.lists.specs.Refusals.{unlessRefused}
 use Rattle.lists.proofs.Stores.{sets-front}
 use Rattle.route.specs.All.{firstOf}
 use Rattle.route_links.specs.Arrays.{net}
 use Rattle.route_links.specs.ByNode.{ByNode}
+use Rattle.route_links.specs.Contracts.{Holds}
 use Rattle.route_links.proofs.Table.{table-holds}
+use Rattle.route_ahead.specs.Ahead.{Reaches}
+use Rattle.route_ahead.proofs.Going.{some-reached, unreached}
 use Rattle.route_search.specs.Answers.{findingRefusal}
 use Rattle.route_search.specs.Contracts.{routesOver}
 use Rattle.route_search.proofs.Telling.{too-many, no-place, places-right}
@@ -131,18 +134,6 @@ module _ (rs : List (List ℕ)) (s : Short rs) (buf : List ℕ) (room : ℕ) (q 
         let t = length-take room rs in
         ap (λ (q : Slots). q .bytes ++ drop (16 * room) buf) all ∙ front-back buf (16 * room) fits (slotsOf (take room rs)) (omega arith)
 
-    -- no route
-    told-none : z .count ≡ 0 → {r : Listed} → r ≡ record { refusal = 43; count = 0; more = false } → Gives (listRefusal rs (length buf)) rs buf r (z .bytes ++ drop (16 * room) buf)
-    unfolding slotsOf
-    told-none e {r} q =
-        let n : length rs ≡ 0 = (let c = counted in omega arith) in
-        let g = refusing (listRefusal rs (length buf)) 42 rs buf (refusal-none rs (length buf) enough n) q in
-        (g .0, written ∙ none-written rs n ∙ g .1)
-      where
-        none-written : (l : List (List ℕ)) → length l ≡ 0 → slotsOf (take room l) ++ drop (length (slotsOf (take room l))) buf ≡ buf
-        none-written [] h = ap (λ (q : List (List ℕ)). slotsOf q ++ drop (length (slotsOf q)) buf) (take-nil room)
-        none-written (r ∷ l) h = absurd (omega arith)
-
     -- more than there is room for, and all of them
     told-more : room < z .count → Gives (listRefusal rs (length buf)) rs buf (record { refusal = 0; count = room; more = true }) (z .bytes ++ drop (16 * room) buf)
     told-more h =
@@ -150,7 +141,7 @@ module _ (rs : List (List ℕ)) (s : Short rs) (buf : List ℕ) (room : ℕ) (q 
         let l : length (take room rs) ≡ room = length-take-le room rs (omega arith) in
         accepting (listRefusal rs (length buf)) rs buf _ room room true (refusal-some rs (length buf) enough (omega arith)) q l (lt-ltb room (length rs) (omega arith)) written
 
-    told-all : (z .count ≡ 0 → ⊥) → z .count ≤ room → Gives (listRefusal rs (length buf)) rs buf (record { refusal = 0; count = z .count; more = false }) (z .bytes ++ drop (16 * room) buf)
+    told-all : 0 < length rs → z .count ≤ room → Gives (listRefusal rs (length buf)) rs buf (record { refusal = 0; count = z .count; more = false }) (z .bytes ++ drop (16 * room) buf)
     told-all ne h =
         let c = counted in
         let n : length rs ≤ room = omega arith in
@@ -182,6 +173,23 @@ module _ (ends : List (List ℕ)) (ways : List ℕ) (links from to : ℕ) (buf :
         refusing (listRefusalOver ends ways links from to (length buf)) 41 (routesOver ends ways links from to) buf
         (sym numbered ∙ refusal-short (routesOver ends ways links from to) (length buf) (room-none (length buf) (sym e ∙ z))) q
 
+    -- no route leads from there
+    pub list-nowhere : (room : ℕ) → room ≡ slotRoom (length buf) → (room ≡ 0 → ⊥) → (t : List ℕ) → ByNode (net ends ways links to) t
+        → (answer : Bool) → Reaches t from answer → answer ≡ false → {r : Listed} → r ≡ record { refusal = 43; count = 0; more = false } → Lists r buf
+    unfolding routesOver
+    list-nowhere room e some t b answer R off q =
+        refusing (listRefusalOver ends ways links from to (length buf)) 42 rs₀ buf
+        (sym numbered
+        ∙ refusal-none rs₀ (length buf) (enough rs₀ (all-short (net ends ways links to) from (omega arith) inside) buf room e some)
+        (ap length (sym (H .same from inside) ∙ unreached t from answer R (H .walkable) inside off)))
+        q
+      where
+        rs₀ : List (List ℕ)
+        rs₀ = routesOver ends ways links from to
+
+        H : Holds (net ends ways links to) t
+        H = table-holds ends ways links to t b
+
     -- what the walk counted and wrote
     module _ (room : ℕ) (q : room ≡ slotRoom (length buf)) (some : room ≡ 0 → ⊥) (t : List ℕ) (b : ByNode (net ends ways links to) t) (z : Slots)
         (w : z ≡ stowAll (record { bytes = take (16 * room) buf; count = 0 }) (pathsOn t from 0 (replicate 16 0) 0)) where
@@ -199,11 +207,16 @@ module _ (ends : List (List ℕ)) (ways : List ℕ) (links from to : ℕ) (buf :
       over : {r : Listed} → Gives (listRefusal (routesOver ends ways links from to) (length buf)) (routesOver ends ways links from to) buf r (z .bytes ++ drop (16 * room) buf) → Lists r (z .bytes ++ drop (16 * room) buf)
       over {r} g = subst (λ (k : ℕ). Gives k rs buf r (z .bytes ++ drop (16 * room) buf)) numbered g
 
-      pub list-none : z .count ≡ 0 → {r : Listed} → r ≡ record { refusal = 43; count = 0; more = false } → Lists r (z .bytes ++ drop (16 * room) buf)
-      list-none e p = over (told-none rs short buf room q some z walked e p)
-
       pub list-more : room < z .count → Lists (record { refusal = 0; count = room; more = true }) (z .bytes ++ drop (16 * room) buf)
       list-more h = over (told-more rs short buf room q some z walked h)
 
-      pub list-all : (z .count ≡ 0 → ⊥) → z .count ≤ room → Lists (record { refusal = 0; count = z .count; more = false }) (z .bytes ++ drop (16 * room) buf)
-      list-all ne h = over (told-all rs short buf room q some z walked ne h)
+      pub list-all : (answer : Bool) → Reaches t from answer → answer ≡ true → z .count ≤ room → Lists (record { refusal = 0; count = z .count; more = false }) (z .bytes ++ drop (16 * room) buf)
+      unfolding routesOver
+      list-all answer R e h = over (told-all rs short buf room q some z walked (some-routes rs (λ k. some-reached t from answer R (H .walkable) inside e (H .same from inside ∙ k))) h)
+        where
+          H : Holds (net ends ways links to) t
+          H = table-holds ends ways links to t b
+
+          some-routes : (l : List (List ℕ)) → (l ≡ [] → ⊥) → 0 < length l
+          some-routes [] k = absurd (k refl)
+          some-routes (r ∷ l) k = omega arith

@@ -1,15 +1,18 @@
 -- The two steps that call on each other, turn by turn.
 use Prim.Native.Nat.{ℕ, _+_, _-_, _<_, _≤_}
 use mathlib.Core.Path.{_≡_, refl, sym, ap, ap₂, _∙_}
+use mathlib.Core.Bool.{Bool, true}
 use mathlib.Core.List.{List, [], _∷_, _++_, map, map-append, append-assoc, append-nil}
 use native.Mathlib.Omega.{arith}
 use borrow.Author.Tests.{lt-ltb}
 use lib.Bits.{bitXor}
 use lib.ListN.{length, getD, set, replicate}
 use Rattle.route.specs.All.{allRoutes}
-use Rattle.route_links.specs.Contracts.{alone, netOf, Walkable, goneAfter, linksOn, routesOn, routesBy, Standing}
-use Rattle.route_links.proofs.Standing.{going, routes-here, start-standing, start-routes}
+use Rattle.route_links.specs.Contracts.{alone, netOf, Walkable, goneAfter, linksOn, routesOn, routesBy, OnRoute}
+use Rattle.route_links.proofs.Standing.{routes-here, start-routes}
 use Rattle.route_links.proofs.Turning.{Turn, routes-none}
+use Rattle.route_ahead.specs.Ahead.{LooksOn, Reaches}
+use Rattle.route_ahead.proofs.Going.{going-ahead, reached}
 use Rattle.route_list.specs.Contracts.{roomIn, Slots, full, stow, stowAll, linksIn, Cleared, pathsBy, pathsOn, Walking, Trying}
 use Rattle.route_list.proofs.Stowing.{stow-append, stow-full, cleared-more, links-more}
 
@@ -67,18 +70,20 @@ module _ (t : List ℕ) (f gone d : ℕ) (path : List ℕ) where
   arrived s e =
       ap (stow s) (sym (append-nil (linksIn path d))) ∙ ap (λ (rs : List (List ℕ)). stowAll s (behind (linksIn path d) rs)) (sym (routes-here t f gone e))
 
-  pub went-on : Standing t f gone d → ¬ (f ≡ getD t 80 0) → pathsOn t f gone path d ≡ pathsBy t f (goneAfter t gone f) (linksOn t gone f) path d
-  unfolding pathsOn pathsBy
-  went-on S ne = ap (behind (linksIn path d)) (going t f gone d S .says ne)
+  -- by the links that the look ahead keeps
+  module _ (O : OnRoute t f gone d) (ne : f ≡ getD t 80 0 → ⊥) (kept : ℕ) (L : LooksOn t (goneAfter t gone f) (linksOn t gone f) kept) where
+    pub went-on : pathsOn t f gone path d ≡ pathsBy t f (goneAfter t gone f) kept path d
+    unfolding pathsOn pathsBy
+    went-on = ap (behind (linksIn path d)) (going-ahead t f gone d O ne kept L .says ne)
 
-  pub trying-of : (n : ℕ) (buf : List ℕ) → Walking t f gone d path n buf → Trying t f (goneAfter t gone f) (linksOn t gone f) d path n buf
-  trying-of n buf w = record { chooses = going t f gone d (w .stands) .chooses; cleared = w .cleared; room = w .room }
+    pub trying-of : (n : ℕ) (buf : List ℕ) → Cleared path d → n ≤ roomIn buf → Trying t f (goneAfter t gone f) kept d path n buf
+    trying-of n buf c r = record { chooses = going-ahead t f gone d O ne kept L .chooses; cleared = c; room = r }
 
 -- ---- the start
 
 module _ (t : List ℕ) (from : ℕ) where
-  pub start-walking : (buf : List ℕ) → Walkable t → from < 16 → Walking t from 0 0 (replicate 16 0) 0 buf
-  start-walking buf w h = record { stands = start-standing t from w h; cleared = refl; room = omega arith }
+  pub start-walking : (buf : List ℕ) (answer : Bool) → Walkable t → from < 16 → Reaches t from answer → answer ≡ true → Walking t from 0 0 (replicate 16 0) 0 buf
+  start-walking buf answer w h R e = record { stands = reached t from answer R w h e; cleared = refl; room = omega arith }
 
   pub start-paths : pathsOn t from 0 (replicate 16 0) 0 ≡ allRoutes (netOf t) from
   unfolding pathsOn linksIn

@@ -7,7 +7,7 @@ use lib.Dec.{ltb}
 use lib.ListN.{length, take, drop, replicate}
 use lib.Seq.{sets}
 use Rattle.lists.specs.Refusals.{orElse}
-use Rattle.route_links.specs.Contracts.{routesOn, routesBy, Standing, Choosing}
+use Rattle.route_links.specs.Contracts.{routesOn, routesBy, OnRoute, Choosing}
 use Rattle.route_search.specs.Answers.{longestRoute}
 use Rattle.route_search.specs.Contracts.{placesRefusal, routesOver}
 use Rattle.route_list.specs.Listing.{slotSize, slotOf, listRefusal}
@@ -62,13 +62,13 @@ pathsBy t at gone links path d = map (λ r. linksIn path d ++ r) (routesBy t at 
 unfoldable pub pathsOn : List ℕ → ℕ → ℕ → List ℕ → ℕ → List (List ℕ)
 pathsOn t f gone path d = map (λ r. linksIn path d ++ r) (routesOn t f gone)
 
--- where one stands, with the path so far, and not yet more than there is room for
+-- where a walk stands, on a route, with the path so far, and not yet more than there is room for
 pub record Walking (t : List ℕ) (f gone d : ℕ) (path : List ℕ) (n : ℕ) (buf : List ℕ) : Type 0 where
-  pub stands : Standing t f gone d
+  pub stands : OnRoute t f gone d
   pub cleared : Cleared path d
   pub room : n ≤ roomIn buf
 
--- what one chooses from, likewise
+-- what it chooses from, links that begin routes, likewise
 pub record Trying (t : List ℕ) (at gone links d : ℕ) (path : List ℕ) (n : ℕ) (buf : List ℕ) : Type 0 where
   pub chooses : Choosing t at gone links d
   pub cleared : Cleared path d

@@ -1,6 +1,7 @@
 // The lister (document 02, Ten): all routes in one walk over the links kept beside their nodes, each in a slot of a lent buffer.
 use chart::MOST_LINKS;
 use chart::MOST_NODES;
+use route_ahead::reaches;
 use route_links::links_by_node;
 use walking::walk_on;
 ghost use mathlib.Core.Path.{_≡_};
@@ -67,6 +68,9 @@ pub fn list(
         return refused(42);
     }
     let t = links_by_node(ends, ways, links, to);
+    if !reaches(&t, from) {
+        return refused(43);
+    }
     let n = walk_on(
         &t,
         from as u64,
@@ -76,9 +80,6 @@ pub fn list(
         &mut out[..SLOT_SIZE * room],
         0,
     );
-    if n == 0 {
-        return refused(43);
-    }
     if room < n {
         return Listed {
             refusal: 0,

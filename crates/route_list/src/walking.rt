@@ -1,8 +1,10 @@
 // The walk that lists: trying the links of a node, and walking on from a link's far end. It counts one route more than there is room for, and then ends.
 use crate::SLOT_SIZE;
+use route_ahead::ahead_of_some;
 use route_links::GOAL;
 use route_links::OUT_ROW;
 use route_links::SUM_ROW;
+use route_links::TABLE_SIZE;
 ghost use mathlib.Core.Path.{_≡_};
 ghost use Prim.Native.Nat.{_*_, _<_, _≤_};
 ghost use lib.Seq.{sets};
@@ -38,7 +40,7 @@ fn arrive(d: usize, path: [u8; 16], out: &mut [u8], n: usize) -> usize
 
 // Lists the routes that go on from the node at by these links; the path has d links, and n routes are listed.
 fn try_links(
-    t: &[u64; 81],
+    t: &[u64; TABLE_SIZE],
     at: u64,
     gone: u64,
     links: u64,
@@ -67,7 +69,7 @@ fn try_links(
 
 // Lists the routes on from the node f, which is not met yet.
 pub fn walk_on(
-    t: &[u64; 81],
+    t: &[u64; TABLE_SIZE],
     f: u64,
     gone: u64,
     d: usize,
@@ -84,5 +86,6 @@ pub fn walk_on(
     let k = f as usize;
     let links = t[OUT_ROW + k];
     let then = gone | t[k] | (1u64 << (48 + f));
-    try_links(t, f, then, links ^ (links & gone), d, path, out, n)
+    let c = ahead_of_some(t, then, links ^ (links & gone));
+    try_links(t, f, then, c, d, path, out, n)
 }

@@ -1,17 +1,20 @@
--- The first route by some links, turn by turn; and what the code holds: one law puts a link before a route that was found.
+-- The first route by some links goes by the lowest of them; and what the code holds: one law puts a link before a route that was found.
 use mathlib.Core.Path.{_≡_, refl, sym, ap, _∙_}
-use mathlib.Core.List.{List, [], _∷_, _++_, map, append-assoc}
+use mathlib.Core.List.{List, [], _∷_, _++_, map, append-assoc, List·Memᴰ, List·Memᴰ·not-nil}
 use Prim.Native.Nat.{ℕ, suc, _+_, _-_, _≤_}
 use native.Mathlib.Omega.{arith}
 use lib.Bits.{bitXor}
 use lib.Dec.{lit≤}
 use lib.ListN.{length, getD, set, length-replicate, replicate-append-replicate, length-append}
 use lib.Seq.{set-at}
-use Rattle.route.specs.All.{Finding, route, noMore, noRoute, firstOf}
+use Rattle.route.specs.Route.{also}
+use Rattle.route.specs.All.{allFrom, Finding, route, noMore, noRoute, firstOf}
+use Rattle.route.proofs.Laws.{all-are}
 use Rattle.route.proofs.Next.{orLater, behind, first-append, first-map}
-use Rattle.route_links.specs.Contracts.{alone, routesOn, routesBy}
+use Rattle.route_links.specs.Contracts.{alone, netOf, metOf, routesOn, routesBy, OnRoute}
 use Rattle.route_links.proofs.Arrays.{never}
 use Rattle.route_links.proofs.Standing.{routes-here}
+use Rattle.route_links.proofs.Table.{table-sound}
 use Rattle.route_links.proofs.Turning.{Turn, routes-none}
 use Rattle.route_search.specs.Contracts.{zeros, foundAt}
 use Rattle.route_search.specs.declared.Found.{Found}
@@ -33,6 +36,15 @@ first-none t at gone links e = ap firstOf (routes-none t at gone links e)
 pub first-here : (t : List ℕ) (f gone : ℕ) → f ≡ getD t 80 0 → firstOf (routesOn t f gone) ≡ route []
 unfolding firstOf
 first-here t f gone e = ap firstOf (routes-here t f gone e)
+
+-- on a route there is one
+pub first-leads : (t : List ℕ) (f gone d : ℕ) → OnRoute t f gone d → firstOf (routesOn t f gone) ≡ noMore → ⊥
+unfolding routesOn firstOf
+first-leads t f gone d O e = go (allFrom (netOf t) f (also f (metOf gone))) (all-are (netOf t) (table-sound t (O .stands .table)) f (also f (metOf gone)) (O .leads .0) .1 (O .leads .1)) e
+  where
+    go : {r : List ℕ} (l : List (List ℕ)) → List·Memᴰ r l → firstOf l ≡ noMore → ⊥
+    go [] m e = List·Memᴰ·not-nil m
+    go (s ∷ l) m e = never (cc)
 
 -- ---- what the code holds
 
@@ -72,6 +84,14 @@ module _ (d i : ℕ) (o rest : Finding) (w : Found) (e : w ≡ foundAt (d + 1) o
       go noMore e n q = absurd (k q)
       go noRoute e n q = absurd (n refl)
       go (route r) e n q = ap (put d i) e ∙ put-route d i r
+
+  pub found-some : (o ≡ noMore → ⊥) → w .refusal ≡ 43 → ⊥
+  found-some n k = go o n refusal-of
+    where
+      go : (o : Finding) → (o ≡ noMore → ⊥) → w .refusal ≡ foundAt (d + 1) o .refusal → ⊥
+      go noMore n q = n refl
+      go noRoute n q = absurd (omega (arith, q, k))
+      go (route r) n q = absurd (omega (arith, q, k))
 
   pub found-none : w .refusal ≡ 43 → orLater (behind i o) rest ≡ rest
   unfolding orLater behind

@@ -13,17 +13,19 @@ use lib.ListN.{length, getD, drop, drop-of-length-le}
 use lib.Seq.{drop-cons}
 use Rattle.lists.proofs.Bools.{and-left, and-right, or-no-left, or-no-right, no-true, both-ways}
 use Rattle.route.specs.Route.{Net, Sound, also, IsRoute, arrived, passed}
-use Rattle.route.specs.All.{linksFrom, tries, allFrom, noMore, noRoute, firstOf, nextOf}
+use Rattle.route.specs.All.{allFrom, noMore, noRoute, firstOf, nextOf}
 use Rattle.route.specs.Contracts.{leastTry, isRoute}
-use Rattle.route.proofs.Laws.{all-here, all-sound}
+use Rattle.route.proofs.Laws.{also-other, all-here, all-sound}
 use Rattle.route.proofs.Next.{orLater, behind, next-found, next-absent, next-on, isRoute-yes, isRoute-of}
 use Rattle.route_links.specs.Sets.{has}
-use Rattle.route_links.specs.Contracts.{netOf, metOf, Covers, goneAfter, linksOn, routesOn, routesBy, Standing, Choosing}
+use Rattle.route_links.specs.Contracts.{netOf, metOf, goneAfter, linksOn, routesOn, routesBy, Standing, Choosing}
 use Rattle.route_links.proofs.Arrays.{never}
 use Rattle.route_links.proofs.Cover.{later-cover}
 use Rattle.route_links.proofs.Digits.{without-small}
-use Rattle.route_links.proofs.Standing.{met-after, fewer, opened, gone-known, links-small, left}
+use Rattle.route_links.proofs.Standing.{met-after, fewer, opened, gone-known, links-small}
 use Rattle.route_links.proofs.Table.{table-sound}
+use Rattle.route_ahead.specs.Ahead.{LooksAhead}
+use Rattle.route_ahead.proofs.Going.{left-ahead}
 
 -- ---- the digit of a link
 
@@ -126,47 +128,45 @@ module _ (t : List ℕ) (f gone d : ℕ) (S : Standing t f gone d) (r : List ℕ
     pub later-past : 48 ≤ i → nextOf (routesOn t f gone) (drop d r) ≡ noRoute
     later-past h = later-off (no-true (λ e. let w = opened t f gone d S .opens i e in let k = S .table .leads i f (w .0) (w .1 .0) .kept .place in omega arith))
 
-    -- all that is needed where it does, and these links are tried after it
-    pub record Along (links : ℕ) : Type 0 where
+    -- all that is needed where it does
+    pub record Along : Type 0 where
       pub back : f ≤ getD t (32 + getD r d 0) 0
       pub stands : Standing t (getD t (32 + getD r d 0) 0 - f) (goneAfter t gone f) (d + 1)
-      pub chooses : Choosing t f (goneAfter t gone f) links d
       pub says : nextOf (routesOn t f gone) (drop d r)
-          ≡ orLater (behind (getD r d 0) (nextOf (routesOn t (getD t (32 + getD r d 0) 0 - f) (goneAfter t gone f)) (drop (d + 1) r))) (firstOf (routesBy t f (goneAfter t gone f) links))
+          ≡ orLater (behind (getD r d 0) (nextOf (routesOn t (getD t (32 + getD r d 0) 0 - f) (goneAfter t gone f)) (drop (d + 1) r))) (leastTry (netOf t) f (metOf (goneAfter t gone f)) (getD r d 0 + 1))
 
-    pub along-by : (links : ℕ) → Covers (netOf t) links f (metOf (goneAfter t gone f)) (i + 1) → links < 2 ^ 48 → has (linksOn t gone f) i ≡ true → Along links
-    unfolding leastTry routesOn netOf
-    along-by links C l e =
+    pub along : has (linksOn t gone f) (getD r d 0) ≡ true → Along
+    unfolding routesOn netOf
+    along e =
         let w = opened t f gone d S .opens i e in
         let g = w .0 in
         let k = S .table .leads i f g (w .1 .0) .kept in
         let s = k .sum in
-        let p : i < 48 = k .place in
         let z : getD t (32 + i) 0 - f ≡ g = omega arith in
         let F = fewer t f gone d S in
         let D = S .depth in
-        let L = left t f gone d S links (i + 1) (omega arith) C l in
         record {
           back = omega arith;
           stands = subst (λ (x : ℕ). Standing t x then (d + 1)) (sym z)
-              (record { table = S .table; node = k .far; fresh = w .1 .1; known = gone-known t f gone d S; depth = omega arith });
-          chooses = L .chooses;
-          says = said g p (w .1 .0) (w .1 .1) z (L .says elsewhere);
+              (record { table = S .table; node = k .far; fresh = w .1 .1; goal = goal-after; known = gone-known t f gone d S; depth = omega arith });
+          says = ap₂ (λ m l. nextOf (allFrom (netOf t) f m) l) (sym (met-after t f gone d S)) (drop-cons r d 0 more)
+              ∙ next-step (netOf t) sound f i g (metOf then) (drop (suc d) r) elsewhere (k .place) (w .1 .0) (w .1 .1)
+              ∙ ap (λ (n : ℕ). orLater (behind i (nextOf (routesOn t g then) (drop (suc d) r))) (leastTry (netOf t) f (metOf then) n)) (sym (add-one i))
+              ∙ ap₂ (λ (n x : ℕ). orLater (behind i (nextOf (routesOn t x then) (drop n r))) (leastTry (netOf t) f (metOf then) (i + 1))) (sym (add-one d)) (sym z);
         }
       where
-        said : (g : ℕ) → i < 48 → netOf t .far i f ≡ some g → metOf then g ≡ false → getD t (32 + i) 0 - f ≡ g
-            → tries (netOf t) (λ n. routesOn t n then) f (metOf then) (linksFrom (netOf t) (i + 1)) ≡ routesBy t f then links
-            → nextOf (routesOn t f gone) (drop d r) ≡ orLater (behind i (nextOf (routesOn t (getD t (32 + i) 0 - f) then) (drop (d + 1) r))) (firstOf (routesBy t f then links))
-        said g p far fresh z same =
-            ap₂ (λ m l. nextOf (allFrom (netOf t) f m) l) (sym (met-after t f gone d S)) (drop-cons r d 0 more)
-            ∙ next-step (netOf t) sound f i g (metOf then) (drop (suc d) r) elsewhere p far fresh
-            ∙ ap (λ (n : ℕ). orLater (behind i (nextOf (routesOn t g then) (drop (suc d) r))) (leastTry (netOf t) f (metOf then) n)) (sym (add-one i))
-            ∙ ap₂ (λ (n x : ℕ). orLater (behind i (nextOf (routesOn t x then) (drop n r))) (leastTry (netOf t) f (metOf then) (i + 1))) (sym (add-one d)) (sym z)
-            ∙ ap (λ l. orLater (behind i (nextOf (routesOn t (getD t (32 + i) 0 - f) then) (drop (d + 1) r))) (firstOf l)) same
+        goal-after : metOf then (getD t 80 0) ≡ false
+        goal-after = ap (λ m. m (getD t 80 0)) (met-after t f gone d S) ∙ also-other f (metOf gone) (getD t 80 0) (λ z. elsewhere (sym z)) ∙ S .goal
 
-    -- all its later links
-    pub along : has (linksOn t gone f) i ≡ true → Along (bitXor (linksOn t gone f) (bitAnd (linksOn t gone f) (2 ^ (getD r d 0 + 1) - 1)))
-    along e =
-        along-by (bitXor (linksOn t gone f) (bitAnd (linksOn t gone f) (2 ^ (i + 1) - 1)))
-        (later-cover (netOf t) (linksOn t gone f) f (metOf then) (i + 1) (opened t f gone d S))
-        (without-small 48 (linksOn t gone f) (2 ^ (i + 1) - 1) (links-small t f gone d S)) e
+    -- of its later links those that begin a route are tried after it
+    pub record After (kept : ℕ) : Type 0 where
+      pub chooses : Choosing t f (goneAfter t gone f) kept d
+      pub says : leastTry (netOf t) f (metOf (goneAfter t gone f)) (getD r d 0 + 1) ≡ firstOf (routesBy t f (goneAfter t gone f) kept)
+
+    pub after-it : (kept : ℕ) → getD r d 0 < 48 → LooksAhead t (goneAfter t gone f) (bitXor (linksOn t gone f) (bitAnd (linksOn t gone f) (2 ^ (getD r d 0 + 1) - 1))) kept → After kept
+    unfolding leastTry routesOn
+    after-it kept h ahead =
+        let later = bitXor (linksOn t gone f) (bitAnd (linksOn t gone f) (2 ^ (i + 1) - 1)) in
+        let L = left-ahead t f gone d S elsewhere later kept (i + 1) (omega arith) (without-small 48 (linksOn t gone f) (2 ^ (i + 1) - 1) (links-small t f gone d S))
+        (later-cover (netOf t) (linksOn t gone f) f (metOf then) (i + 1) (opened t f gone d S)) ahead in
+        record { chooses = L .chooses; says = ap firstOf (L .says elsewhere) }

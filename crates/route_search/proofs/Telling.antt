@@ -1,5 +1,6 @@
 -- What first and next answer: each refusal in its turn, and a route that was found is the one that the list of all routes has.
 use mathlib.Core.Path.{_≡_, refl, sym, ap, _∙_}
+use mathlib.Core.Bool.{Bool, true, false}
 use mathlib.Core.List.{List}
 use Prim.Native.Nat.{ℕ, zero, suc, _-_, _<_, _≤_}
 use native.Mathlib.Nat.{zero-add}
@@ -11,8 +12,10 @@ use Rattle.lists.proofs.Refusals.{taken, refused}
 use Rattle.route.specs.All.{Finding, route, noMore, noRoute, firstOf, nextOf}
 use Rattle.route_links.specs.Arrays.{net}
 use Rattle.route_links.specs.ByNode.{ByNode}
-use Rattle.route_links.specs.Contracts.{routesOn, Standing}
+use Rattle.route_links.specs.Contracts.{routesOn, Standing, OnRoute}
 use Rattle.route_links.proofs.Standing.{start-standing, start-routes}
+use Rattle.route_ahead.specs.Ahead.{Reaches}
+use Rattle.route_ahead.proofs.Going.{reached, unreached}
 use Rattle.route_links.proofs.Table.{table-holds}
 use Rattle.route_search.specs.declared.Traced.{Traced}
 use Rattle.route_search.specs.declared.Traced.the-variants.{Route, Refused}
@@ -162,6 +165,18 @@ module _ (ends : List (List ℕ)) (ways : List ℕ) (links from to : ℕ) where
 
     pub begins : (t : List ℕ) → ByNode (net ends ways links to) t → Standing t from 0 0
     begins t T = start-standing t from (table-holds ends ways links to t T .walkable) inside
+
+    pub begins-on : (t : List ℕ) (answer : Bool) → ByNode (net ends ways links to) t → Reaches t from answer → answer ≡ true → OnRoute t from 0 0
+    begins-on t answer T R e = reached t from answer R (table-holds ends ways links to t T .walkable) inside e
+
+    -- no route leads from there
+    pub first-nowhere : (buf t : List ℕ) (answer : Bool) → ByNode (net ends ways links to) t → Reaches t from answer → answer ≡ false → 15 ≤ length buf
+        → FirstGives buf (refusedTold 43 buf)
+    unfolding routesOver firstOf findingRefusal
+    first-nowhere buf t answer T R e h =
+        let H = table-holds ends ways links to t T in
+        first-refuses 42 buf
+        (first-numbered buf ∙ first-room rs buf h ∙ ap (λ l. findingRefusal (firstOf l)) (sym (H .same from inside) ∙ unreached t from answer R (H .walkable) inside e))
 
     pub first-small : (buf : List ℕ) → length buf < 15 → FirstGives buf (refusedTold 42 buf)
     first-small buf h = first-refuses 41 buf (first-numbered buf ∙ first-short rs buf h)

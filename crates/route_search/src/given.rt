@@ -3,9 +3,11 @@ use crate::Found;
 use crate::walking::nothing;
 use crate::walking::try_links;
 use chart::MOST_LINKS;
+use route_ahead::ahead;
 use route_links::GOAL;
 use route_links::OUT_ROW;
 use route_links::SUM_ROW;
+use route_links::TABLE_SIZE;
 ghost use mathlib.Core.Path.{_≡_};
 ghost use Prim.Native.Nat.{_+_, _-_, _^_, _<_};
 ghost use lib.Bits.{bitAnd, bitXor};
@@ -25,7 +27,7 @@ fn after(links: u64, i: u64) -> u64
 }
 
 // The least route on from the node f after r, whose first d links led there: 43 where there is none, 41 where r is no route from its place d on.
-pub fn later(t: &[u64; 81], r: &[u8], f: u64, gone: u64, d: usize) -> Found
+pub fn later(t: &[u64; TABLE_SIZE], r: &[u8], f: u64, gone: u64, d: usize) -> Found
     requires { ⌜ Standing (now t) f gone d ⌝ }
     ensures { λ w. ⌜ w ≡ foundAt d (nextOf (routesOn (now (t .entry)) f gone) (drop d (now (r .entry)))) ⌝ }
 {
@@ -55,7 +57,8 @@ pub fn later(t: &[u64; 81], r: &[u8], f: u64, gone: u64, d: usize) -> Found
         return w;
     }
     if refusal == 43 {
-        return try_links(t, f, then, after(links, i), d);
+        let c = ahead(t, then, after(links, i));
+        return try_links(t, f, then, c, d);
     }
     w.route[d] = b;
     w

@@ -3,6 +3,7 @@
 use chart::MOST_LINKS;
 use chart::MOST_NODES;
 use given::later;
+use route_ahead::reaches;
 use route_links::links_by_node;
 use walking::walk_on;
 ghost use mathlib.Core.Path.{_≡_};
@@ -68,6 +69,9 @@ pub fn first_route(
         return Traced::Refused(42);
     }
     let t = links_by_node(ends, ways, links, to);
+    if !reaches(&t, from) {
+        return Traced::Refused(43);
+    }
     let f = walk_on(&t, from as u64, 0, 0);
     hand_over(f, buf)
 }

@@ -1,4 +1,5 @@
--- `route_links::lead` meets its contract: each test that fails leaves the table as it was; else the link is put into both sets and its ends are added up.
+-- `route_links::lead` meets its contract: each test that fails leaves the table as it was; else the link is put into both sets, its near end into the set of
+-- the far one, and its ends are added up.
 use mathlib.Core.Path.{_∙_, ap}
 use mathlib.Core.List.{List}
 use Prim.Native.Nat.{ℕ, _+_}
@@ -40,6 +41,12 @@ add-put-in c = search needs
 put-in-requires-2 : tie.Need-put-in-requires-2
 put-in-requires-2 c κs = search needs
 
+add-put-in-2 : tie.Need-add-put-in-2
+add-put-in-2 c = search needs
+
+put-in-requires-3 : tie.Need-put-in-requires-3
+put-in-requires-3 c κs = search needs
+
 add-t : tie.Need-add-t
 add-t c = search needs
 
@@ -55,9 +62,11 @@ element-write-t c = search needs
 returns-5 : tie.Need-returns-5
 unfolding linked
 returns-5 c =
-    let w = c .before .before .before .before in
+    let w = c .before .before .before .before .before .before in
     let a = w .before .before .before .before .args in
-    ap (λ (l : List ℕ). set l (32 + a .i) (a .a + a .b)) (c .put-in2 .ensures ∙ ap (λ (l : List ℕ). putIn l (16 + a .a) (a .i)) (c .before .before .put-in .ensures))
+    ap (λ (l : List ℕ). set l (32 + a .i) (a .a + a .b))
+    (c .put-in3 .ensures
+    ∙ ap (λ (l : List ℕ). putIn l (81 + a .b) (a .a)) (c .before .before .put-in2 .ensures ∙ ap (λ (l : List ℕ). putIn l (16 + a .a) (a .i)) (c .before .before .before .before .put-in .ensures)))
     ∙ lead-on (a .t .now) (a .i) (a .a) (a .b) (a .passed) (not-false _ (w .before .before .before .if1 .left)) (w .before .before .if2 .left) (w .before .if3 .left) (w .if4 .left)
 
 pub lead-spec : {M : Type 1} → statement M
@@ -71,6 +80,8 @@ lead-spec =
     put-in-requires
     add-put-in
     put-in-requires-2
+    add-put-in-2
+    put-in-requires-3
     add-t
     add-t-2
     mul-t

@@ -23,6 +23,7 @@ use Rattle.route_list.proofs.walking.+try_links+walk_on.Lts-try_links a
 use Rattle.route_list.proofs.walking.walk_on.Reads as walk-on
 use Rattle.route_list.proofs.walking.walk_on.Kinds as walk-on-kinds
 use Rattle.route_list.proofs.walking.+try_links+walk_on.Lts-walk_on as walk-on-lts
+use Rattle.route_ahead.proofs.ahead_of_some.Reads as ahead-of-some-reads
 use Rattle.route_list.proofs.walking.arrive.Reads as arrive-reads
 use Rattle.route_list.proofs.walking.+try_links+walk_on.{statement}
 use Rattle.route_list.proofs.walking.+try_links+walk_on.Tie.{close}
@@ -323,6 +324,8 @@ try-links-returns-2 t c =
 walk-on-element-copy-out-if1 : (t : ℕ) → walk-on-lts.Need-element-copy-out-if1 (
   arrive-reads.Asked,
   arrive-reads.Learnt,
+  ahead-of-some-reads.Asked,
+  ahead-of-some-reads.Learnt,
   try-links-below t,
   try-links.Post,
 ) (walk-on-at t) walk-on.Post
@@ -331,16 +334,20 @@ walk-on-element-copy-out-if1 t c = omega arith
 walk-on-arrive-requires : (t : ℕ) → walk-on-lts.Need-arrive-requires (
   arrive-reads.Asked,
   arrive-reads.Learnt,
+  ahead-of-some-reads.Asked,
+  ahead-of-some-reads.Learnt,
   try-links-below t,
   try-links.Post,
 ) (walk-on-at t) walk-on.Post
 walk-on-arrive-requires t c κs =
     let w = c .before .before .before .before .pre .1 in
-    (w .room, (standing-room _ _ _ _ (w .stands), w .cleared))
+    (w .room, (standing-room _ _ _ _ (w .stands .stands), w .cleared))
 
 walk-on-same-length : (t : ℕ) → walk-on-lts.Need-same-length (
   arrive-reads.Asked,
   arrive-reads.Learnt,
+  ahead-of-some-reads.Asked,
+  ahead-of-some-reads.Learnt,
   try-links-below t,
   try-links.Post,
 ) (walk-on-at t) walk-on.Post
@@ -349,6 +356,8 @@ walk-on-same-length t c = search needs
 walk-on-returns : (t : ℕ) → walk-on-lts.Need-returns (
   arrive-reads.Asked,
   arrive-reads.Learnt,
+  ahead-of-some-reads.Asked,
+  ahead-of-some-reads.Learnt,
   try-links-below t,
   try-links.Post,
 ) (walk-on-at t) walk-on.Post
@@ -359,88 +368,117 @@ walk-on-returns t c =
 walk-on-add-links : (t : ℕ) → walk-on-lts.Need-add-links (
   arrive-reads.Asked,
   arrive-reads.Learnt,
+  ahead-of-some-reads.Asked,
+  ahead-of-some-reads.Learnt,
   try-links-below t,
   try-links.Post,
 ) (walk-on-at t) walk-on.Post
 walk-on-add-links t c =
-    let k = c .before .before .before .pre .1 .stands .node in
+    let k = c .before .before .before .pre .1 .stands .stands .node in
     omega arith
 
 walk-on-mul-links : (t : ℕ) → walk-on-lts.Need-mul-links (
   arrive-reads.Asked,
   arrive-reads.Learnt,
+  ahead-of-some-reads.Asked,
+  ahead-of-some-reads.Learnt,
   try-links-below t,
   try-links.Post,
 ) (walk-on-at t) walk-on.Post
 walk-on-mul-links t c =
-    let k = c .before .before .before .pre .1 .stands .node in
+    let k = c .before .before .before .pre .1 .stands .stands .node in
     omega arith
 
 walk-on-element-copy-out-links : (t : ℕ) → walk-on-lts.Need-element-copy-out-links (
   arrive-reads.Asked,
   arrive-reads.Learnt,
+  ahead-of-some-reads.Asked,
+  ahead-of-some-reads.Learnt,
   try-links-below t,
   try-links.Post,
 ) (walk-on-at t) walk-on.Post
 walk-on-element-copy-out-links t c =
-    let k = c .before .before .before .pre .1 .stands .node in
+    let k = c .before .before .before .pre .1 .stands .stands .node in
     omega arith
 
 walk-on-mul-then : (t : ℕ) → walk-on-lts.Need-mul-then (
   arrive-reads.Asked,
   arrive-reads.Learnt,
+  ahead-of-some-reads.Asked,
+  ahead-of-some-reads.Learnt,
   try-links-below t,
   try-links.Post,
 ) (walk-on-at t) walk-on.Post
 walk-on-mul-then t c =
-    let k = c .before .before .before .before .pre .1 .stands .node in
+    let k = c .before .before .before .before .pre .1 .stands .stands .node in
     omega arith
 
 walk-on-element-copy-out-then : (t : ℕ) → walk-on-lts.Need-element-copy-out-then (
   arrive-reads.Asked,
   arrive-reads.Learnt,
+  ahead-of-some-reads.Asked,
+  ahead-of-some-reads.Learnt,
   try-links-below t,
   try-links.Post,
 ) (walk-on-at t) walk-on.Post
 walk-on-element-copy-out-then t c =
-    let k = c .before .before .before .before .pre .1 .stands .node in
+    let k = c .before .before .before .before .pre .1 .stands .stands .node in
     omega arith
 
 walk-on-add-then : (t : ℕ) → walk-on-lts.Need-add-then (
   arrive-reads.Asked,
   arrive-reads.Learnt,
+  ahead-of-some-reads.Asked,
+  ahead-of-some-reads.Learnt,
   try-links-below t,
   try-links.Post,
 ) (walk-on-at t) walk-on.Post
 walk-on-add-then t c =
-    let k = c .before .before .before .before .before .pre .1 .stands .node in
+    let k = c .before .before .before .before .before .pre .1 .stands .stands .node in
     omega arith
 
 walk-on-shl-then : (t : ℕ) → walk-on-lts.Need-shl-then (
   arrive-reads.Asked,
   arrive-reads.Learnt,
+  ahead-of-some-reads.Asked,
+  ahead-of-some-reads.Learnt,
   try-links-below t,
   try-links.Post,
 ) (walk-on-at t) walk-on.Post
 walk-on-shl-then t c =
-    let k = c .before .before .before .before .before .pre .1 .stands .node in
+    let k = c .before .before .before .before .before .pre .1 .stands .stands .node in
     omega arith
+
+walk-on-ahead-of-some-requires : (t : ℕ) → walk-on-lts.Need-ahead-of-some-requires (
+  arrive-reads.Asked,
+  arrive-reads.Learnt,
+  ahead-of-some-reads.Asked,
+  ahead-of-some-reads.Learnt,
+  try-links-below t,
+  try-links.Post,
+) (walk-on-at t) walk-on.Post
+walk-on-ahead-of-some-requires t c κs = search needs
 
 walk-on-try-links-requires : (t : ℕ) → walk-on-lts.Need-try-links-requires (
   arrive-reads.Asked,
   arrive-reads.Learnt,
+  ahead-of-some-reads.Asked,
+  ahead-of-some-reads.Learnt,
   try-links-below t,
   try-links.Post,
 ) (walk-on-at t) walk-on.Post
 walk-on-try-links-requires t c κs =
-    let w = c .before .before .before .before .before .before .pre in
+    let w = c .before .before .before .before .before .before .before .pre in
     let m = w .0 in
-    let l = fewer _ _ _ _ (w .1 .stands) in
-    (omega arith, trying-of _ _ _ _ _ _ _ (w .1))
+    let l = fewer _ _ _ _ (w .1 .stands .stands) in
+    let k = c .before .ahead-of-some in
+    (omega arith, trying-of _ _ _ _ _ (w .1 .stands) (c .before .before .before .before .if1 .left) (k .result) (k .ensures) _ _ (w .1 .cleared) (w .1 .room))
 
 walk-on-same-length-2 : (t : ℕ) → walk-on-lts.Need-same-length-2 (
   arrive-reads.Asked,
   arrive-reads.Learnt,
+  ahead-of-some-reads.Asked,
+  ahead-of-some-reads.Learnt,
   try-links-below t,
   try-links.Post,
 ) (walk-on-at t) walk-on.Post
@@ -449,14 +487,17 @@ walk-on-same-length-2 t c = search needs
 walk-on-returns-2 : (t : ℕ) → walk-on-lts.Need-returns-2 (
   arrive-reads.Asked,
   arrive-reads.Learnt,
+  ahead-of-some-reads.Asked,
+  ahead-of-some-reads.Learnt,
   try-links-below t,
   try-links.Post,
 ) (walk-on-at t) walk-on.Post
 walk-on-returns-2 t c =
-    let s = c .before .before .before .before .before .before .before .before .before in
+    let s = c .before .before .before .before .before .before .before .before .before .before in
     let a = s .args in
+    let k = c .before .before .before .before .ahead-of-some in
     c .before .before .try-links .ensures
-    ∙ ap (stowAll (record { bytes = a .out .now; count = a .n })) (sym (went-on (a .t .now) (a .f) (a .gone) (a .d) (a .path) (s .pre .1 .stands) (c .before .before .before .before .before .before .if1 .left)))
+    ∙ ap (stowAll (record { bytes = a .out .now; count = a .n })) (sym (went-on (a .t .now) (a .f) (a .gone) (a .d) (a .path) (s .pre .1 .stands) (c .before .before .before .before .before .before .before .if1 .left) (k .result) (k .ensures)))
 
 pub +try-links+walk-on-spec : {M : Type 1} → statement M
 +try-links+walk-on-spec = close μ-try-links μ-walk-on (λ t. try-links-lts.spec (
@@ -487,7 +528,7 @@ pub +try-links+walk-on-spec : {M : Type 1} → statement M
     (try-links-same-length-2 t)
     (try-links-returns-2 t))
     λ t. walk-on-lts.spec
-    (arrive-reads.Asked, arrive-reads.Learnt, try-links-below t, try-links.Post)
+    (arrive-reads.Asked, arrive-reads.Learnt, ahead-of-some-reads.Asked, ahead-of-some-reads.Learnt, try-links-below t, try-links.Post)
     (walk-on-at t)
     walk-on.Post
     (walk-on-element-copy-out-if1 t)
@@ -501,6 +542,7 @@ pub +try-links+walk-on-spec : {M : Type 1} → statement M
     (walk-on-element-copy-out-then t)
     (walk-on-add-then t)
     (walk-on-shl-then t)
+    (walk-on-ahead-of-some-requires t)
     (walk-on-try-links-requires t)
     (walk-on-same-length-2 t)
     (walk-on-returns-2 t)
