@@ -1,7 +1,8 @@
 //! One call on a chart by an ordinary Rust program, made over and over: chart CALL FILE TIMES.
 //! CALL is none, read (a chart's bytes into the 937-byte image of include/poztecameh.h), write (the image's chart as bytes),
-//! renew (a chart's bytes in the directed form) or net (a chart's bytes into the ends of its links as node places: what comes
-//! before a search). The refusals are those of documents 01 and 02.
+//! renew (a chart's bytes in the directed form), net (a chart's bytes into the ends of its links as node places: what comes
+//! before a search) or table (the 196-byte image of the table of the node that the question begins at). The refusals are
+//! those of documents 01 and 02.
 
 /// A value that the compiler knows nothing of.
 #[inline(never)]
@@ -14,6 +15,7 @@ fn hidden<T>(value: T) -> T {
 }
 
 const IMAGE: usize = 937;
+const TABLE: usize = 196;
 const PLAIN: u8 = 2;
 const DIRECTED: u8 = 4;
 
@@ -253,6 +255,66 @@ impl Chart {
         }
         Some((ends, self.place(from)?, self.place(to)?))
     }
+
+    /// For each node its links that can be passed from there, in order of place: the node that each leads to, and its port here.
+    fn links_out(&self) -> Option<Vec<Vec<(usize, u8)>>> {
+        let mut out = vec![Vec::new(); self.nodes.len()];
+        for link in self.links.iter().filter(|link| link.on) {
+            let (a, b) = (self.place(link.a.station)?, self.place(link.b.station)?);
+            if link.direction != 2 {
+                out[a].push((b, link.a.port));
+            }
+            if link.direction != 1 {
+                out[b].push((a, link.b.port));
+            }
+        }
+        Some(out)
+    }
+
+    /// For each node the port by which a route with the fewest links to it leaves: breadth first, in order of link places, a node
+    /// takes the port of the one that it is come to from.
+    fn ports(&self, from: usize) -> Option<Vec<Option<u8>>> {
+        let out = self.links_out()?;
+        let mut ports = vec![None; self.nodes.len()];
+        let mut queue = std::collections::VecDeque::with_capacity(16);
+        for &(node, port) in &out[from] {
+            if node != from && ports[node].is_none() {
+                ports[node] = Some(port);
+                queue.push_back(node);
+            }
+        }
+        while let Some(node) = queue.pop_front() {
+            for &(next, _) in &out[node] {
+                if next != from && ports[next].is_none() {
+                    ports[next] = ports[node];
+                    queue.push_back(next);
+                }
+            }
+        }
+        Some(ports)
+    }
+
+    fn put_table(&self, own: Station, image: &mut [u8; TABLE]) -> u8 {
+        let Some(ports) = self.place(own).and_then(|place| self.ports(place)) else {
+            return 44;
+        };
+        let mut count = 0;
+        let (head, entries) = image.split_at_mut(4);
+        let mut parts = entries.chunks_exact_mut(6);
+        for (node, port) in self.nodes.iter().zip(ports) {
+            if let Some(port) = port {
+                let [brigade, high, low] = node.station.bytes();
+                parts.next().unwrap().copy_from_slice(&[0, brigade, high, low, port, 1]);
+                count += 1;
+            }
+        }
+        for part in parts {
+            part.copy_from_slice(&[2, 0, 0, 0, 0, 0]);
+        }
+        head[..3].copy_from_slice(&own.bytes());
+        head[3] = count;
+        0
+    }
 }
 
 fn read(bytes: &[u8], image: &mut [u8; IMAGE]) -> u8 {
@@ -289,14 +351,23 @@ fn renew(bytes: &[u8], out: &mut [u8]) -> u8 {
     }
 }
 
+fn table(bytes: &[u8], own: Station, image: &mut [u8; TABLE]) -> u8 {
+    match Chart::read(bytes) {
+        Ok(chart) => chart.put_table(own, image),
+        Err((number, _)) => number,
+    }
+}
+
 fn main() {
     let words: Vec<String> = std::env::args().collect();
     let bytes = std::fs::read(&words[2]).unwrap();
     let mut image = [0u8; IMAGE];
     let mut out = [0u8; 4096];
+    let mut entries = [0u8; TABLE];
     assert_eq!(read(&bytes, &mut image), 0);
     assert_eq!(write(&image, &mut out), 0);
     assert_eq!(out[..bytes.len()], bytes[..]);
+    let own = station(&image[3..]);
     for _ in 0..words[3].parse().unwrap() {
         match words[1].as_str() {
             "none" => {}
@@ -307,10 +378,11 @@ fn main() {
                 assert!(hidden(Chart::read(hidden(&bytes)).ok().and_then(|chart| chart.net()))
                     .is_some())
             }
+            "table" => assert_eq!(table(hidden(&bytes), hidden(own), hidden(&mut entries)), 0),
             other => panic!("nothing {other}"),
         }
     }
-    println!("{} {}", sum_of(&image), sum_of(&out));
+    println!("{} {} {}", sum_of(&image), sum_of(&out), sum_of(&entries));
 }
 
 fn sum_of(bytes: &[u8]) -> u64 {

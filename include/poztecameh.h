@@ -56,6 +56,9 @@
  *   41  what was given is no route
  *   43  there is no route, or none later
  *
+ * Refusal of a table that is written from a chart, after those of the chart:
+ *   44  the chart has no such node
+ *
  * Refusals of a table and of a ledger, in the order of each call:
  *   50  a table's count, node or port, or its own address, is out of range, or its image can't be read
  *   51  a destination or an arrival port is out of range
@@ -149,6 +152,15 @@ uint8_t pz_chart_read(const uint8_t *chart, size_t n, uint8_t *image, size_t m, 
  * the number that reading would give (a label length above 24 is 23; an on above 1, a direction above 2 or not 0 in the
  * plain form, and a form other than 2 or 4 with the first link are 24), then 10 if the chart does not fit. */
 uint8_t pz_chart_write(const uint8_t *image, size_t m, uint8_t *chart, size_t n, uint16_t *written);
+
+/* Writes the routing table of one of the chart's nodes into m bytes at table, as the chart's links lead: an entry for
+ * each other node that a route reaches, in order of node places, on, out by the port at which the first link of a route
+ * with the fewest links leaves (of those the first in route order). The places after them, up to 32, are everything,
+ * port 0, off. What the chart's question asks makes no difference. 21 to 31 of the chart, *place being where the refused
+ * field begins (31: the chart's size), then 44 if the chart has no such node, then 10 if the image has fewer than 196
+ * bytes; *place is 0 beside any other number. */
+uint8_t pz_table(const uint8_t *chart, size_t n, uint8_t brigade, uint16_t node, uint8_t *table, size_t m,
+                 uint16_t *place);
 
 /* Writes a chart of n bytes in the directed form into m bytes at out, every plain link as both ways; *written is its
  * size. One that is in that form is copied. 21 to 31 of the chart, *place being where the refused field begins (31: the

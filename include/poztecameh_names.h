@@ -14,8 +14,8 @@
 /* The version of the two headers and of the library beside them. The first number changes with a
  * call, a refusal or an image that is there, the second where something is added. */
 #define PZ_VERSION_MAJOR 4
-#define PZ_VERSION_MINOR 1
-#define PZ_VERSION "4.1"
+#define PZ_VERSION_MINOR 2
+#define PZ_VERSION "4.2"
 
 /* A thread's stack that is enough for any call: more than twice what any needs (poztecameh.h,
  * "Stack"). */
@@ -55,6 +55,9 @@
 #define PZ_BAD_ROUTE 41
 #define PZ_NO_ROUTE_ROOM 42
 #define PZ_NO_ROUTE 43
+
+/* Of a table that is written from a chart. */
+#define PZ_NO_NODE 44
 
 /* Of a table and of a ledger. */
 #define PZ_BAD_TABLE 50
@@ -100,6 +103,7 @@ static inline const char *pz_refusal_text(unsigned number)
     case PZ_BAD_ROUTE: return "what was given is no route";
     case PZ_NO_ROUTE_ROOM: return "there is no room: a route needs 15 bytes, a slot 16";
     case PZ_NO_ROUTE: return "there is no route, or none later";
+    case PZ_NO_NODE: return "the chart has no such node";
     case PZ_BAD_TABLE: return "the table has a value out of its range, or its image can't be read";
     case PZ_BAD_DESTINATION: return "the destination or the arrival port is out of its range";
     case PZ_NO_ENTRY: return "no entry of the table qualifies";

@@ -522,6 +522,42 @@ static void test_slots(void)
     CHECK(count == 0 && more == 0 && place == 91);
 }
 
+/* The table of 9/1 in S, found by the names of its places and asked through pz_choose; the places
+ * after its entries; and what refuses it. */
+static void test_written_table(void)
+{
+    static const struct {
+        uint16_t node;
+        uint8_t port;
+    } expected[] = {{20, 2}, {21, 3}, {30, 2}};
+    enum { ENTRIES = sizeof expected / sizeof expected[0] };
+    uint8_t chart[PZ_LONGEST_INPUT + 1], table[PZ_TABLE_SIZE];
+    uint16_t place;
+    size_t n = read_sample("s", chart);
+    CHECK(pz_table(chart, n, 9, 1, table, sizeof table, &place) == PZ_DONE && place == 0);
+    CHECK(table[PZ_TABLE_BRIGADE] == 9 && pz_word(table + PZ_TABLE_NODE) == 1);
+    CHECK(table[PZ_TABLE_COUNT] == ENTRIES);
+    for (unsigned i = 0; i < ENTRIES; i++) {
+        const uint8_t *entry = table + PZ_ENTRY_AT(i);
+        CHECK(entry[PZ_ENTRY_KIND] == PZ_KIND_NODE && entry[PZ_ENTRY_ON] == 1);
+        CHECK(entry[PZ_ENTRY_BRIGADE] == 9);
+        CHECK(pz_word(entry + PZ_ENTRY_NODE) == expected[i].node);
+        CHECK(entry[PZ_ENTRY_PORT] == expected[i].port);
+        CHECK(out_port(table, 9, expected[i].node, 1) == expected[i].port);
+    }
+    for (unsigned i = ENTRIES; i < PZ_MOST_ENTRIES; i++) {
+        const uint8_t *entry = table + PZ_ENTRY_AT(i);
+        CHECK(entry[PZ_ENTRY_KIND] == PZ_KIND_EVERYTHING && entry[PZ_ENTRY_ON] == 0);
+        CHECK(entry[PZ_ENTRY_PORT] == 0);
+    }
+    CHECK(out_port(table, 9, 1, 6) == PZ_HIGHEST_PORT + 1 + 6);
+    CHECK(pz_table(chart, n, 9, 2, table, sizeof table, &place) == PZ_NO_NODE && place == 0);
+    CHECK(pz_table(chart, n, 9, 1, table, sizeof table - 1, &place) == PZ_NO_ROOM && place == 0);
+    n = read_sample("loop", chart);
+    CHECK(pz_table(chart, n, 9, 1, table, sizeof table, &place) == PZ_BAD_CHART_LOOP &&
+          place == 91);
+}
+
 /* A row of 13 nodes with two links from each to the next: 4,096 routes. */
 static size_t lay_row(uint8_t *chart)
 {
@@ -574,7 +610,7 @@ static void test_words(void)
 {
     static const uint8_t ranges[][2] = {{PZ_DONE, PZ_NO_ROOM},
                                         {PZ_BAD_CHART_CUT, PZ_BAD_CHART_ONE_WAY},
-                                        {PZ_BAD_ROUTE, PZ_NO_ROUTE},
+                                        {PZ_BAD_ROUTE, PZ_NO_NODE},
                                         {PZ_BAD_TABLE, PZ_NO_ENTRY},
                                         {PZ_BAD_LEDGER, PZ_NO_SETTLED_LEG}};
     const char *none = pz_refusal_text(UINT8_MAX);
@@ -639,6 +675,7 @@ int main(void)
     test_routes();
     test_slots();
     test_most_slots();
+    test_written_table();
     test_sheets();
     test_words();
     test_direction_words();

@@ -192,6 +192,12 @@ static void call_chart_read(void)
     answer = pz_chart_read(chart, chart_size, chart_image, sizeof chart_image, &word);
 }
 
+/* The table of the first node. */
+static void call_table(void)
+{
+    answer = pz_table(chart, chart_size, 9, 0, table, sizeof table, &word);
+}
+
 static void call_renew(void)
 {
     answer = pz_chart_renew(chart, chart_size, moved, sizeof moved, &moved_size, &word);
@@ -252,6 +258,7 @@ static const struct {
     {"pz_clear", nothing, call_clear, PZ_DONE},
     {"pz_chart_write", draw_no_route, call_chart_write, PZ_DONE},
     {"pz_chart_read", nothing, call_chart_read, PZ_DONE},
+    {"pz_table", nothing, call_table, PZ_DONE},
     {"pz_chart_renew", nothing, call_renew, PZ_DONE},
     {"pz_chart_restore", nothing, call_restore, PZ_DONE},
     {"pz_first, no route", draw_no_route, call_first, PZ_NO_ROUTE},

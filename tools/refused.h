@@ -59,12 +59,13 @@ static inline void show_field(size_t place, size_t n)
     fprintf(stderr, "\n");
 }
 
-/* Says why an input of n bytes is refused. A chart that can't be restored has no field to show. */
+/* Says why an input of n bytes is refused. A chart that can't be restored, or has no such node, has
+ * no field to show. */
 static inline int explain(uint8_t refusal, size_t place, size_t n)
 {
     fprintf(stderr, "tools/%s: refused %u at %zu: %s\n", tool, refusal, place,
             pz_refusal_text(refusal));
-    if (refusal != PZ_BAD_CHART_ONE_WAY)
+    if (refusal != PZ_BAD_CHART_ONE_WAY && refusal != PZ_NO_NODE)
         show_field(place, n);
     return REFUSED;
 }

@@ -16,8 +16,8 @@ pub const LINK: u8 = 2;
 pub const QUESTION: u8 = 3;
 pub const DIRECTED_LINK: u8 = 4;
 
-const STATION: usize = 3;
-const END: usize = 4;
+pub const STATION: usize = 3;
+pub const END: usize = 4;
 const HEAD: usize = 3;
 
 /// A station as it stands in a chart: the brigade, then the node's two bytes.

@@ -1,6 +1,7 @@
 //! A chart as values, and as the pieces that it is laid from; both may break every rule.
 
-use crate::chart::{lay_field, DIRECTED_LINK, LINK, MOST_LINKS, MOST_NODES, NODE, QUESTION};
+use crate::chart::{lay_field, StationBytes, DIRECTED_LINK, LINK, NODE, QUESTION};
+use crate::chart::{MOST_LINKS, MOST_NODES};
 use crate::chart_image::{self, FORM, LINK_COUNT, NODE_COUNT};
 use crate::wire::Address;
 
@@ -53,7 +54,8 @@ pub fn lay_pieces(pieces: &[Piece]) -> Vec<u8> {
     pieces.iter().flat_map(Piece::lay).collect()
 }
 
-fn station_bytes((brigade, node): Station) -> [u8; 3] {
+/// Gives the bytes of a station as it stands in a chart.
+pub fn station_bytes((brigade, node): Station) -> StationBytes {
     [brigade as u8, (node >> 8) as u8, node as u8]
 }
 

@@ -97,8 +97,8 @@ pub fn draw_form(draw: &mut Draw, draft: &mut Draft) {
     draft.links.iter_mut().for_each(|link| link.direction = draw.one_of(directions));
 }
 
-// Draws a chart that keeps every rule, of each size class.
-fn draw_draft(draw: &mut Draw) -> Draft {
+/// Draws a chart that keeps every rule, of each size class.
+pub fn draw_draft(draw: &mut Draw) -> Draft {
     let few = draw.within(2, 5);
     let many = draw.within(6, 15);
     let count = draw.one_of(&[1, 2, few, few, few, few, few, few, many, many, MOST_NODES]);

@@ -1,13 +1,17 @@
-//! The sample charts of charts/ and their sheets, made again here and compared with the files, so
-//! that nobody has to believe bytes that can't be read. `outside charts` writes the files.
+//! The sample charts of charts/, their sheets and their tables, made again here and compared with
+//! the files, so that nobody has to believe bytes that can't be read. `outside charts` writes the
+//! files.
 
 use crate::chart::{Refusal, NODE};
-use crate::chart_call::known_read;
+use crate::chart_call::{known, known_read};
 use crate::chart_cases::{largest, to_directed, ONE_WAY, S};
 use crate::chart_draft::{lay_pieces, Draft, DraftLink, Piece};
 use crate::draw::Draw;
 use crate::group::{Group, Outcome, Tests};
+use crate::router::SIZE;
 use crate::sheet::{print, LONGEST_INPUT};
+use crate::table::Tables;
+use crate::table_call::{journeys, try_nodes, try_table};
 use crate::trace::Routes;
 use crate::trace_call::walk_through;
 use crate::trace_cases::thousand;
@@ -97,17 +101,20 @@ fn file(name: &str, kind: &str) -> String {
     format!("{FOLDER}/{name}.{kind}")
 }
 
-fn sheet_of(chart: &[u8]) -> Vec<u8> {
-    print(chart, MANY).expect("a chart of few routes").into_bytes()
+// Gives the files of a sample, by their kinds: a refused chart has no tables.
+fn files(chart: Vec<u8>, refusal: Refusal) -> Vec<(&'static str, Vec<u8>)> {
+    let sheet = print(&chart, MANY).expect("a chart of few routes");
+    let tables = (refusal == ACCEPTED).then(|| ("tables", Tables::of(&chart).print().into()));
+    [("sheet", sheet.into()), ("chart", chart)].into_iter().chain(tables).collect()
 }
 
-/// Writes the sample charts and their sheets.
+/// Writes the sample charts, their sheets and their tables.
 pub fn write() {
     fs::create_dir_all(FOLDER).expect("a folder for the charts");
-    for (name, _, _, make) in SAMPLES {
-        let chart = make();
-        fs::write(file(name, "sheet"), sheet_of(&chart)).expect("a sheet that can be written");
-        fs::write(file(name, "chart"), chart).expect("a chart that can be written");
+    for (name, refusal, _, make) in SAMPLES {
+        for (kind, made) in files(make(), refusal) {
+            fs::write(file(name, kind), made).expect("a file that can be written");
+        }
     }
     println!("charts: {} written", SAMPLES.len());
 }
@@ -115,13 +122,19 @@ pub fn write() {
 fn samples(group: &mut Group, _: &mut Draw) -> Outcome {
     for (name, refusal, count, make) in SAMPLES {
         let chart = make();
-        for (kind, made) in [("chart", &chart), ("sheet", &sheet_of(&chart))] {
+        for (kind, made) in files(chart.clone(), refusal) {
             let stored = fs::read(file(name, kind)).ok();
-            group.check(stored.as_ref() == Some(made), || {
+            group.check(stored == Some(made), || {
                 format!("{} is not the one that is made here", file(name, kind))
             })?;
         }
         known_read(group, name, refusal, &chart)?;
+        let tables = Tables::of(&chart);
+        let images = try_nodes(group, name, &chart, &tables)?;
+        journeys(group, name, &tables, &images)?;
+        let came = try_table(group, name, &chart, &tables, (9, 2), SIZE)?;
+        let number = if refusal == ACCEPTED { (44, 0) } else { refusal };
+        known(group, name, number, (came.number, came.first_beside()))?;
         let routes = Routes::of(&chart, MANY).expect("a chart of few routes");
         let numbers = walk_through(group, name, &chart, &routes, vec![0; 15], 0)?;
         let end = if refusal == ACCEPTED { 43 } else { refusal.0 };

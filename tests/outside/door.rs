@@ -1,6 +1,7 @@
 //! The library's C interface. Whatever is lent to a call lies between guard bytes, and each of its
 //! bytes is known beforehand, so that every change can be seen.
 
+use crate::chart_draft::Station;
 use crate::wire::Address;
 use std::array::from_fn;
 use std::fmt;
@@ -62,6 +63,15 @@ extern "C" {
         chart: *mut u8,
         n: usize,
         written: *mut u16,
+    ) -> u8;
+    fn pz_table(
+        chart: *const u8,
+        n: usize,
+        brigade: u8,
+        node: u16,
+        table: *mut u8,
+        m: usize,
+        place: *mut u16,
     ) -> u8;
     fn pz_chart_renew(
         chart: *const u8,
@@ -277,6 +287,11 @@ impl Answer {
     pub fn first_beside(&self) -> usize {
         self.beside[0].number()
     }
+
+    /// Gives all of them.
+    pub fn numbers_beside(&self) -> Vec<usize> {
+        self.beside.iter().map(Beside::number).collect()
+    }
 }
 
 impl fmt::Display for Answer {
@@ -435,6 +450,25 @@ pub fn chart_write(image: &[u8], chart_size: usize) -> Answer {
         pz_chart_write(image.start(), image.size, chart.start(), chart.size, written.start())
     };
     Answer { number, lent: chart, handed_in: vec![image], beside: vec![written] }
+}
+
+/// Calls pz_table and lends it an image of this size.
+pub fn table(chart: &[u8], (brigade, node): Station, image_size: usize) -> Answer {
+    let mut chart = Lent::holding("chart", chart);
+    let mut table = Lent::blank("table", image_size);
+    let mut place = Beside::new("place", u16::BITS);
+    let number = unsafe {
+        pz_table(
+            chart.start(),
+            chart.size,
+            byte(brigade),
+            word(node),
+            table.start(),
+            table.size,
+            place.start(),
+        )
+    };
+    Answer { number, lent: table, handed_in: vec![chart], beside: vec![place] }
 }
 
 /// Calls pz_chart_renew and lends it a buffer of this size.

@@ -26,6 +26,10 @@ mod rules;
 mod sequences;
 mod sheet;
 mod sheet_cases;
+mod table;
+mod table_call;
+mod table_cases;
+mod table_draws;
 mod trace;
 mod trace_call;
 mod trace_cases;
@@ -70,6 +74,8 @@ fn main() {
         trace_combs::GROUPS,
         trace_draws::GROUPS,
         trace_lists::GROUPS,
+        table_cases::GROUPS,
+        table_draws::GROUPS,
         sheet_cases::GROUPS,
     ];
     let (checks, failed) = run_all(&groups.concat(), seed);

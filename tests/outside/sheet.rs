@@ -29,8 +29,8 @@ pub fn lent(text: &str, room: usize) -> Expected {
     }
 }
 
-// A station or an end: its numbers with slashes between.
-fn slashed(bytes: &[u8]) -> String {
+/// Gives the numbers of a station or an end, with slashes between.
+pub fn slashed(bytes: &[u8]) -> String {
     let node = u16::from_be_bytes([bytes[1], bytes[2]]);
     let ports: String = bytes[3..].iter().map(|port| format!("/{port}")).collect();
     format!("{}/{node}{ports}", bytes[0])

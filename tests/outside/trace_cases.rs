@@ -136,8 +136,8 @@ fn stories(group: &mut Group, _: &mut Draw) -> Outcome {
 
 // ---- shapes ----
 
-// So many nodes in a row, and so many links between neighbours.
-fn chain(nodes: usize, links: usize) -> Draft {
+/// So many nodes in a row, and so many links between neighbours.
+pub fn chain(nodes: usize, links: usize) -> Draft {
     let mut draft = Draft::row(nodes);
     for place in 1..nodes {
         (0..links).for_each(|_| draft.join(place - 1, place));

@@ -25,8 +25,8 @@ use Rattle.route_links.specs.Arrays.{nodePlace, isOut, isBack, otherEnd, farNod
 use Rattle.route_links.proofs.Arrays.{far-in, sound}
 use Rattle.route_search.specs.Contracts.{routesOver}
 use Rattle.chart_refuse.specs.Promises.{Accepted}
-use Rattle.chart_net.specs.Net.{stationPlace, goesOut, goesBack, across, placed, farEnd, chartNet, start, routesOf, routesBetween}
-use Rattle.chart_net.specs.Contracts.{stationPlaceFor, endPlaces, endPlacesAt, passageOf, passageAt, endsFor, passagesFor, arrayRoutes}
+use Rattle.chart_net.specs.Net.{stationPlace, goesOut, goesBack, across, placed, farEnd, netTo, chartNet, start, routesOf, routesBetween}
+use Rattle.chart_net.specs.Contracts.{stationPlaceFor, endPlaces, endPlacesAt, passageOf, passageAt, endsFor, passagesFor, arrayRoutesBetween, arrayRoutes}
 use Rattle.chart_net.proofs.Places.{crossed, place-written, place-few, at-place, place-apart}
 
 -- ---- the arrays, an element at a time
@@ -88,7 +88,7 @@ module _ (ls : Links) where
 
 -- ---- far ends: of the chart, and of the arrays
 
-far-there : (ns : Nodes) (ls : Links) (i a : ℕ) → i < ls .count → farEnd ns ls i a ≡ placed ns (across (linkAt ls i) (nodeAt ns a .station))
+pub far-there : (ns : Nodes) (ls : Links) (i a : ℕ) → i < ls .count → farEnd ns ls i a ≡ placed ns (across (linkAt ls i) (nodeAt ns a .station))
 unfolding farEnd
 far-there ns ls i a h = rw (lt-ltb i (ls .count) h)
 
@@ -204,9 +204,9 @@ module _ (c : Chart) (ok : Accepted c) where
       go true false false p r u v z = Option·none-ne-some f z
 
   -- every far end of an accepted chart is a node of it
-  pub chart-sound : Sound (chartNet c)
-  unfolding chartNet farEnd
-  chart-sound i a f e = go (ltb i (ls .count)) refl e
+  pub net-sound : (t : Station) → Sound (netTo c t)
+  unfolding farEnd
+  net-sound t i a f e = go (ltb i (ls .count)) refl e
     where
       go : (b : Bool) → ltb i (c .links .count) ≡ b → cond b (placed (c .nodes) (across (linkAt (c .links) i) (nodeAt (c .nodes) a .station))) none ≡ some f → f < c .nodes .count
       go false t q = absurd (Option·none-ne-some f q)
@@ -217,20 +217,25 @@ module _ (c : Chart) (ok : Accepted c) where
           let r = sameStation (stationOf (l .b)) (nodeAt ns a .station) in
           crossed-sound l f (j .a) (j .b) (l .on) (goesOut l && p) (goesBack l && r) q
 
+  pub chart-sound : Sound (chartNet c)
+  unfolding chartNet
+  chart-sound = net-sound (c .to)
+
   pub start-below : start c < c .nodes .count
   unfolding start
   start-below = place-written (c .nodes) (c .from) (ok .from)
 
-  abbrev kept : Net
-  kept = net (endsFor (c .nodes) (c .links)) (passagesFor (c .links)) (c .links .count) (stationPlaceFor (c .nodes) (c .to))
-
-  alike : Alike (chartNet c) (net (endsFor (c .nodes) (c .links)) (passagesFor (c .links)) (c .links .count) (stationPlaceFor (c .nodes) (c .to)))
-  unfolding chartNet
-  alike = record { links = refl; goal = sym (place-few ns (c .to) (ok .few-nodes)); far = λ i a h k. far-same i a h k }
-
   -- what the trace keeps has the chart's routes
+  pub routes-between : (s t : Station) → hasNode (c .nodes) s ≡ true → arrayRoutesBetween c s t ≡ routesBetween c s t
+  unfolding routesOver routesBetween
+  routes-between s t w =
+      let to = stationPlaceFor ns t in
+      let from = stationPlace ns s in
+      let kept : Net = net (endsFor ns ls) (passagesFor ls) (ls .count) to in
+      let alike : Alike (netTo c t) kept = record { links = refl; goal = sym (place-few ns t (ok .few-nodes)); far = λ i a h k. far-same i a h k } in
+      ap (allRoutes kept) (place-few ns s (ok .few-nodes))
+      ∙ sym (routes-agree (netTo c t) kept alike (net-sound t) (sound (endsFor ns ls) (passagesFor ls) (ls .count) to) from (place-written ns s w))
+
   pub routes-kept : arrayRoutes c ≡ routesOf c
-  unfolding arrayRoutes routesOver routesOf routesBetween start chartNet
-  routes-kept =
-      ap (allRoutes kept) (place-few ns (c .from) (ok .few-nodes))
-      ∙ sym (routes-agree (chartNet c) kept alike chart-sound (sound (endsFor ns ls) (passagesFor ls) (ls .count) (stationPlaceFor ns (c .to))) (start c) start-below)
+  unfolding arrayRoutes routesOf
+  routes-kept = routes-between (c .from) (c .to) (ok .from)

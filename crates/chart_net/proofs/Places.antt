@@ -27,14 +27,14 @@ crossed on p q l = cond on (cond p (some (stationOf (l .b))) (cond q (some (stat
 
 -- ---- stations that are the same are one
 
-station-eq : (s t : Station) → sameStation s t ≡ true → s ≡ t
+pub station-eq : (s t : Station) → sameStation s t ≡ true → s ≡ t
 unfolding sameStation
 station-eq s t e =
     let x = eqb-true (s .brigade) (t .brigade) (and-left (eqb (s .brigade) (t .brigade)) _ e) in
     let y = eqb-true (s .node .0) (t .node .0) (and-right (eqb (s .brigade) (t .brigade)) _ e) in
     λ i. record { brigade = x i; node = record { 0 = y i } }
 
-station-refl : (s : Station) → sameStation s s ≡ true
+pub station-refl : (s : Station) → sameStation s s ≡ true
 unfolding sameStation
 station-refl s = rw (eq-eqb (s .brigade) (s .brigade) refl, eq-eqb (s .node .0) (s .node .0) refl)
 
@@ -88,12 +88,12 @@ module _ (ns : Nodes) (s : Station) where
 
 module _ (ns : Nodes) (once : (i : ℕ) → i < ns .count → hasNode (nodesBefore ns i) (nodeAt ns i .station) ≡ false) where
   -- each node has its own place
-  own-place : (a : ℕ) → a < ns .count → stationPlace ns (nodeAt ns a .station) ≡ a
+  pub own-place : (a : ℕ) → a < ns .count → stationPlace ns (nodeAt ns a .station) ≡ a
   unfolding hasNode standsAt nodeAt
   own-place a h = sym (place-here ns (nodeAt ns a .station) a h (once a h) (station-refl (nodeAt ns a .station)))
 
   -- the node at a station's place stands there
-  stands-there : (s : Station) (k : ℕ) → stationPlace ns s ≡ k → k < ns .count → sameStation (nodeAt ns k .station) s ≡ true
+  pub stands-there : (s : Station) (k : ℕ) → stationPlace ns s ≡ k → k < ns .count → sameStation (nodeAt ns k .station) s ≡ true
   unfolding stationPlace standsAt
   stands-there s k q l =
       let m : firstBelow (standsAt ns s) (ns .count) < ns .count = omega arith in

@@ -11,13 +11,17 @@ use Rattle.address.specs.Address.{stationOf, sameStation}
 use Rattle.chart.specs.declared.Link.{Link}
 use Rattle.chart.specs.declared.Nodes.{Nodes}
 use Rattle.chart.specs.declared.Links.{Links}
+use Rattle.chart.specs.declared.Chart.{Chart}
 use Rattle.chart.specs.Values.{nodeAt, linkAt, standsAt}
 use Rattle.route.specs.All.{allRoutes}
 use Rattle.route.proofs.Promises.{off-links, twin-links}
 use Rattle.chart_net.proofs.Places.{crossed}
 use Rattle.chart_net.specs.Net.{stationPlace, goesOut, goesBack, across, placed, farEnd, chartNet, start, routesOf, routesBetween}
-use Rattle.chart_net.specs.Promises.{SameRoutes, AcceptedEnds, ByStation, OffLink, OneWay, TwinLink}
+use Rattle.chart_net.specs.Promises.{SameRoutesBetween, SameRoutes, AcceptedEnds, ByStation, OffLink, OneWay, TwinLink}
 use Rattle.chart_net.proofs.Kept as kept
+
+pub routes-between : SameRoutesBetween
+routes-between c ok s t w = kept.routes-between c ok s t w
 
 pub routes-kept : SameRoutes
 routes-kept c ok = kept.routes-kept c ok
@@ -45,20 +49,18 @@ module _ (ns ms : Nodes) (count : ns .count ≡ ms .count) (stations : (i : ℕ)
       ap (λ (o : Option ℕ). cond (ltb i (ls .count)) o none)
       (ap (λ (s : Station). placed ns (across (linkAt ls i) s)) (stations a) ∙ placed-same (across (linkAt ls i) (nodeAt ms a .station)))))
 
+-- two charts with the same stations and the same links have the same routes between any two stations
+pub same-between : (c d : Chart) → c .nodes .count ≡ d .nodes .count → ((i : ℕ) → nodeAt (c .nodes) i .station ≡ nodeAt (d .nodes) i .station)
+    → c .links ≡ d .links → (s t : Station) → routesBetween c s t ≡ routesBetween d s t
+unfolding routesBetween
+same-between c d n stations m s t =
+    let place = place-same (c .nodes) (d .nodes) n stations in
+    let far = far-same (c .nodes) (d .nodes) n stations (c .links) ∙ ap (farEnd (d .nodes)) m in
+    λ j. allRoutes (record { nodes = n j; links = m j .count; far = far j; goal = place t j }) (place s j)
+
 pub by-station : ByStation
-unfolding routesOf routesBetween chartNet start
-by-station c d e =
-    let place : (s t : Station) → s ≡ t → stationPlace (c .nodes) s ≡ stationPlace (d .nodes) t =
-    λ s t q. place-same (c .nodes) (d .nodes) (e .count) (e .stations) s ∙ ap (stationPlace (d .nodes)) q
-    in
-    let far : farEnd (c .nodes) (c .links) ≡ farEnd (d .nodes) (d .links) =
-    far-same (c .nodes) (d .nodes) (e .count) (e .stations) (c .links) ∙ ap (farEnd (d .nodes)) (e .links)
-    in
-    let goal = place (c .to) (d .to) (e .to) in
-    let begin = place (c .from) (d .from) (e .from) in
-    let n = e .count in
-    let m = e .links in
-    λ j. allRoutes (record { nodes = n j; links = m j .count; far = far j; goal = goal j }) (begin j)
+unfolding routesOf
+by-station c d e = same-between c d (e .count) (e .stations) (e .links) (c .from) (c .to) ∙ (λ j. routesBetween d (e .from j) (e .to j))
 
 -- ---- off links, links against their direction, and twin links
 

@@ -47,7 +47,10 @@ passagesFor ls = cond (ltb mostLinks (ls .count)) (replicate mostLinks 0) (row m
 unfoldable pub askedOf : Chart → Asked
 askedOf c = record { from = stationPlaceFor (c .nodes) (c .from); to = stationPlaceFor (c .nodes) (c .to) }
 
--- the routes over these arrays
+-- the routes over these arrays between two stations, and those that the question asks for
+abbrev pub arrayRoutesBetween : Chart → Station → Station → List (List ℕ)
+arrayRoutesBetween c s t =
+    routesOver (endsFor (c .nodes) (c .links)) (passagesFor (c .links)) (c .links .count) (stationPlaceFor (c .nodes) s) (stationPlaceFor (c .nodes) t)
+
 unfoldable pub arrayRoutes : Chart → List (List ℕ)
-arrayRoutes c =
-    routesOver (endsFor (c .nodes) (c .links)) (passagesFor (c .links)) (c .links .count) (stationPlaceFor (c .nodes) (c .from)) (stationPlaceFor (c .nodes) (c .to))
+arrayRoutes c = arrayRoutesBetween c (c .from) (c .to)

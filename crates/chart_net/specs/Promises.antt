@@ -4,16 +4,20 @@ use mathlib.Core.Path.{_≡_}
 use mathlib.Core.Bool.{true, false}
 use mathlib.Core.Option.{none}
 use mathlib.Core.List.{List, _∷_, _++_, List·Memᴰ}
+use Rattle.address.specs.declared.Station.{Station}
 use Rattle.address.specs.Address.{stationOf, sameStation}
 use Rattle.chart.specs.declared.Chart.{Chart}
-use Rattle.chart.specs.Values.{nodeAt, linkAt}
+use Rattle.chart.specs.Values.{nodeAt, linkAt, hasNode}
 use Rattle.chart_refuse.specs.Promises.{Accepted}
 use Rattle.route.specs.Route.{Sound, RouteFrom}
 use Rattle.route.specs.Promises.{TwoRoutes}
-use Rattle.chart_net.specs.Net.{goesOut, goesBack, chartNet, start, routesOf}
-use Rattle.chart_net.specs.Contracts.{arrayRoutes}
+use Rattle.chart_net.specs.Net.{goesOut, goesBack, routesBetween, chartNet, start, routesOf}
+use Rattle.chart_net.specs.Contracts.{arrayRoutesBetween, arrayRoutes}
 
--- the arrays that the trace keeps of an accepted chart have the chart's routes
+-- the arrays that the trace keeps of an accepted chart have the chart's routes: from each of its stations to any station, and those that its question asks for
+abbrev pub SameRoutesBetween : Type 0
+SameRoutesBetween = (c : Chart) → Accepted c → (s t : Station) → hasNode (c .nodes) s ≡ true → arrayRoutesBetween c s t ≡ routesBetween c s t
+
 abbrev pub SameRoutes : Type 0
 SameRoutes = (c : Chart) → Accepted c → arrayRoutes c ≡ routesOf c
 

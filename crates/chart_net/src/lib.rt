@@ -49,6 +49,14 @@ fn place_by(nodes: Nodes, keys: &[u32; 16], s: Station) -> u8
     find_node(nodes, keys, s)
 }
 
+// The place of the node at a station: the nodes' count where there is none, 16 where they are too many.
+pub fn place_of(nodes: Nodes, s: Station) -> u8
+    ensures { λ r. ⌜ r ≡ stationPlaceFor nodes s ⌝ }
+{
+    let keys = chart_refuse::station_keys(nodes);
+    place_by(nodes, &keys, s)
+}
+
 // The two ends of a link, as node places.
 fn link_ends(nodes: Nodes, keys: &[u32; 16], l: Link) -> [u8; 2]
     requires { ⌜ KeysOf nodes (now keys) ⌝ }

@@ -48,6 +48,7 @@ use Rattle.route_trace.proofs.Promises.{routes-listed, chart-links-kept}
 use Rattle.route_first_door.proofs.Promises.{every-route-called, short-called, unread-called, route-numbers}
 use Rattle.route_list_door.specs.Calls.{routesAsked, pzRoutesRefusal, pzRoutesCount, pzRoutesMore, pzRoutesSlots}
 use Rattle.route_list_door.proofs.Promises.{every-slot-called}
+use Rattle.table_write_door.proofs.Promises.{table-refused}
 use Rattle.sheet.specs.Sheet.{sheetText, sheetRefusal, sheetAfter}
 use Rattle.demands.specs.Demands.{EveryCallAnswers, EnvelopesAndLegs, EveryRouteOnce, Demands}
 
@@ -140,6 +141,7 @@ every-call-answers =
       chart-write = λ image chart. record { one-of = chart-write-given image (length chart) .is; untouched = refused _ _ _; none-counted = refused _ _ _ };
       chart-renew = λ chart out. record { one-of = chart-renew-given chart (length out) .is; untouched = refused _ _ _; none-counted = refused _ _ _ };
       chart-restore = λ chart out. record { one-of = chart-restore-given chart (length out) .is; untouched = refused _ _ _; none-counted = refused _ _ _ };
+      table = λ chart s image. record { one-of = table-refused .numbers chart s (length image); untouched = table-refused .left chart s image; none-counted = λ h. refl };
       routes = route-numbers;
       list = λ chart slots. record { one-of = list-given chart (length slots) .is; untouched = refused _ _ _; none-counted = refused _ _ _ };
       list-more = λ chart slots. record { one-of = list-given chart (length slots) .is; untouched = refused _ _ _; none-counted = none-more _ _ _ };

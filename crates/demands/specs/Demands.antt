@@ -9,6 +9,7 @@ use Rattle.lists.specs.Refusals.{among, unlessRefused}
 use Rattle.buffer.specs.Bytes.{Bytes}
 use Rattle.address.specs.declared.Port.{Port}
 use Rattle.address.specs.declared.Seq.{Seq}
+use Rattle.address.specs.declared.Station.{Station}
 use Rattle.address.specs.declared.Address.{Address}
 use Rattle.envelope_read.specs.Promises.{ContentsStand}
 use Rattle.envelope_write.specs.Promises.{ReadUndoesWrite, WriteUndoesRead}
@@ -33,6 +34,7 @@ use Rattle.route_trace.specs.Promises.{RoutesListed, ChartLinksKept}
 use Rattle.route_first_door.specs.Promises.{EveryRouteCalled, ShortCalled, UnreadCalled, RouteNumbers}
 use Rattle.route_list_door.specs.Calls.{pzRoutesRefusal, pzRoutesCount, pzRoutesMore, pzRoutesSlots}
 use Rattle.route_list_door.specs.Promises.{EverySlotCalled}
+use Rattle.table_write_door.specs.Calls.{pzTableRefusal, pzTableImage}
 use Rattle.sheet.specs.Sheet.{sheetText, sheetRefusal, sheetAfter}
 
 -- a call gave 0, or one of these numbers: then no lent byte changed, and the count beside it is 0
@@ -67,6 +69,9 @@ pub record EveryCallAnswers : Type 0 where
       → Answered (21 ∷ 22 ∷ 23 ∷ 24 ∷ 25 ∷ 26 ∷ 27 ∷ 28 ∷ 29 ∷ 30 ∷ 31 ∷ 10 ∷ []) (pzChartRenewRefusal chart (length out)) (pzChartRenewCount chart (length out)) out (pzChartRenewChart chart out)
   pub chart-restore : (chart out : List ℕ)
       → Answered (21 ∷ 22 ∷ 23 ∷ 24 ∷ 25 ∷ 26 ∷ 27 ∷ 28 ∷ 29 ∷ 30 ∷ 31 ∷ 32 ∷ 10 ∷ []) (pzChartRestoreRefusal chart (length out)) (pzChartRestoreCount chart (length out)) out (pzChartRestoreChart chart out)
+  -- the routing table of one of the chart's nodes
+  pub table : (chart : List ℕ) (s : Station) (image : List ℕ)
+      → Answered (21 ∷ 22 ∷ 23 ∷ 24 ∷ 25 ∷ 26 ∷ 27 ∷ 28 ∷ 29 ∷ 30 ∷ 31 ∷ 44 ∷ 10 ∷ []) (pzTableRefusal chart s (length image)) 0 image (pzTableImage chart s image)
   -- a route's length, 0 to 15, or a refusal, every one of which is above 15
   pub routes : RouteNumbers
   -- all routes in slots: how many there are, and whether others follow, are the counts beside its number

@@ -96,7 +96,7 @@ fn read_start(chart: &[u8; 2000], n: u16) -> ChartRead {
 }
 
 // What the built chart is read as.
-fn built(nodes: u16, links: u16, label: u16, to: u16) -> ChartRead {
+pub fn built(nodes: u16, links: u16, label: u16, to: u16) -> ChartRead {
     let mut chart = [b'a'; 2000];
     let n = put_built(&mut chart, nodes, links, label, to);
     read_start(&chart, n)
@@ -115,7 +115,7 @@ fn report_written(answer: Written) {
     }
 }
 
-fn station(node: u16) -> Station {
+pub fn station(node: u16) -> Station {
     Station {
         brigade: 9,
         node: Node(node),

@@ -4,6 +4,7 @@
 mod answers;
 mod charts;
 mod sheets;
+mod tables;
 mod traces;
 
 use limits_script::line_end;
@@ -18,6 +19,7 @@ fn answer(letter: u8, v: &[u16; 64]) {
         b'd' => charts::write_directed(v),
         b'1' => traces::first(v),
         b'2' => traces::next(v),
+        b'T' => tables::write(v),
         b's' => sheets::zeros(v),
         b'S' => sheets::thousand(v),
         _ => {}

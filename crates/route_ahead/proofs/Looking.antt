@@ -24,7 +24,7 @@ use Rattle.route_ahead.proofs.Spreading.{Beside, flood-turns}
 abbrev pub node : ℕ → ℕ
 node k = 1 * 2 ^ k % 65536
 
-node-is : (k : ℕ) → k < 16 → node k ≡ alone k
+pub node-is : (k : ℕ) → k < 16 → node k ≡ alone k
 node-is k h =
     let e : alone k ≡ 2 ^ k = alone-is k (omega arith) in
     let l : alone k < 2 ^ 16 = alone-small k 16 h (omega arith) in
@@ -32,7 +32,7 @@ node-is k h =
     let q : node k ≡ 1 * 2 ^ k = mod-eq-of-lt m in
     omega arith
 
-positive : (w : ℕ) → (w ≡ 0 → ⊥) → 0 < w
+pub positive : (w : ℕ) → (w ≡ 0 → ⊥) → 0 < w
 positive zero h = absurd (h refl)
 positive (suc w) h = omega arith
 

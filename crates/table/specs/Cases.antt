@@ -2,7 +2,7 @@
 use Prim.Native.Nat.{ℕ}
 use mathlib.Core.Path.{_≡_, refl}
 use mathlib.Core.Bool.{Bool, true, false}
-use mathlib.Core.List.{List, [], _∷_}
+use mathlib.Core.List.{_∷_}
 use lib.ListN.{replicate}
 use Rattle.lists.specs.Places.{anyBelow, firstFrom, firstBelow, elementAt}
 use Rattle.address.specs.Address.{addressOf, stationInRange, inRange, sameStation}

@@ -8,7 +8,7 @@ use entries::out_choice;
 ghost use mathlib.Core.Path.{_≡_};
 ghost use mathlib.Core.Bool.{false};
 ghost use Rattle.lists.specs.Refusals.{unlessRefused};
-ghost use Rattle.table.specs.Table.{ownStation, isOwn, chooseOf, choiceRefusal, choiceLocal, choicePort, chooseRefusal, choosePort};
+ghost use Rattle.table.specs.Table.{noEntry, ownStation, isOwn, chooseOf, choiceRefusal, choiceLocal, choicePort, chooseRefusal, choosePort};
 ghost use Rattle.table.specs.Contracts.{choiceFor, choiceForRefusal};
 
 mod entries;
@@ -43,6 +43,17 @@ pub enum Choice {
     Local(Port),
     Out(Port),
     Refused(u8),
+}
+
+// What stands at a place without an entry: everything, port 0, off.
+pub fn no_entry() -> Entry
+    ensures { λ r. ⌜ r ≡ noEntry ⌝ }
+{
+    Entry {
+        target: Target::Everything,
+        port: Port(0),
+        on: false,
+    }
 }
 
 // The station whose table it is.

@@ -2,16 +2,16 @@
 -- 2 everything), brigade 1, node 2, port 1, on 1.
 use Prim.Native.Nat.{ℕ, _+_, _*_}
 use mathlib.Core.Bool.{Bool, not, _&&_, _||_, cond}
-use mathlib.Core.List.{List}
+use mathlib.Core.List.{List, [], _∷_, _++_}
 use lib.Dec.{leb, ltb, eqb}
 use lib.ListN.{length, getD, replicate}
-use Rattle.buffer.specs.Bytes.{wordAt}
-use Rattle.lists.specs.Places.{anyBelow, row}
+use Rattle.buffer.specs.Bytes.{wordAt, wordBytes}
+use Rattle.lists.specs.Places.{anyBelow, row, joined}
 use Rattle.table.specs.declared.Target.{Target}
 use Rattle.table.specs.declared.Target.the-variants.{One, Brigade, Everything}
 use Rattle.table.specs.declared.Entry.{Entry}
 use Rattle.table.specs.declared.Table.{Table}
-use Rattle.table.specs.Table.{mostEntries, noEntry}
+use Rattle.table.specs.Table.{mostEntries, noEntry, entryAt}
 
 abbrev pub tableSize : ℕ
 tableSize = 196
@@ -37,6 +37,15 @@ entryIn b at =
       port = record { 0 = getD b (at + 4) 0 };
       on = eqb (getD b (at + 5) 0) 1;
     }
+
+-- the 6 bytes of an entry: what its kind does not name is 0
+unfoldable pub targetBytes : Target → List ℕ
+targetBytes (One brigade node) = 0 ∷ brigade ∷ wordBytes (node .0)
+targetBytes (Brigade brigade) = 1 ∷ brigade ∷ 0 ∷ 0 ∷ []
+targetBytes Everything = 2 ∷ 0 ∷ 0 ∷ 0 ∷ []
+
+unfoldable pub entryBytes : Entry → List ℕ
+entryBytes e = targetBytes (e .target) ++ (e .port .0 ∷ cond (e .on) 1 0 ∷ [])
 
 -- the 6 bytes that begin at a place are no entry's: the kind is above 2, or on is above 1
 unfoldable pub strayEntryIn : List ℕ → ℕ → Bool
@@ -77,3 +86,8 @@ brokenTable = record { brigade = 0; node = record { 0 = 0 }; count = 33; entries
 -- the table that an image stands for: one that can't be read stands for a table out of range, so that its number, 50, takes its turn
 unfoldable pub tableOf : List ℕ → Table
 tableOf b = cond (readableTable b) (tableIn b) brokenTable
+
+-- ---- a table as an image
+
+unfoldable pub tableImage : Table → List ℕ
+tableImage t = t .brigade ∷ (wordBytes (t .node .0) ++ (t .count ∷ joined entryBytes (entryAt t) mostEntries))

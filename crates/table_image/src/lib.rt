@@ -1,4 +1,4 @@
-// The image of a routing table, 196 bytes: whether it can be read, and the table in it.
+// The image of a routing table, 196 bytes: whether it can be read, the table in it, and a table put into it.
 use address::Node;
 use address::Port;
 use table::Entry;
@@ -8,11 +8,12 @@ use table::Target;
 ghost use mathlib.Core.Path.{_≡_};
 ghost use Prim.Native.Nat.{_+_, _≤_};
 ghost use lib.ListN.{length};
-ghost use Rattle.lists.specs.Places.{anyBelow};
-ghost use Rattle.table.specs.Table.{mostEntries, noEntry};
-ghost use Rattle.table_image.specs.Table.{tableSize, targetOf, entryIn, strayEntryIn, strayEntryHeld, readableTable, tableOf};
+ghost use lib.Seq.{sets};
+ghost use Rattle.lists.specs.Places.{anyBelow, joined};
+ghost use Rattle.table.specs.Table.{mostEntries, entryAt};
+ghost use Rattle.table_image.specs.Table.{tableSize, entriesStart, entryBytes, tableImage, targetOf, entryIn, strayEntryIn, strayEntryHeld, readableTable, tableOf};
 
-const TABLE_SIZE: usize = 196;
+pub const TABLE_SIZE: usize = 196;
 
 // Where the entries begin, and the bytes of each.
 const ENTRIES_START: usize = 4;
@@ -84,22 +85,11 @@ fn readable_table(b: &[u8]) -> bool
     !any_stray(b, n as usize)
 }
 
-// What stands at a place without an entry.
-fn no_entry() -> Entry
-    ensures { λ r. ⌜ r ≡ noEntry ⌝ }
-{
-    Entry {
-        target: Target::Everything,
-        port: Port(0),
-        on: false,
-    }
-}
-
 // The table in an image, with no entry at the places past the count; where it can't be read, one with an entry too many.
 pub fn table_of(b: &[u8]) -> Table
     ensures { λ r. ⌜ r ≡ tableOf (now (b .entry)) ⌝ }
 {
-    let none = no_entry();
+    let none = table::no_entry();
     let mut entries = [none; 32];
     if !readable_table(b) {
         return Table {
@@ -124,4 +114,48 @@ pub fn table_of(b: &[u8]) -> Table
         node: Node(node),
         entries,
     }
+}
+
+// The 6 bytes of an entry: what its kind does not name is 0.
+fn entry_bytes(e: Entry) -> [u8; 6]
+    ensures { λ r. ⌜ r ≡ entryBytes e ⌝ }
+{
+    let g = e.target;
+    let p = e.port;
+    let on = e.on as u8;
+    match g {
+        Target::One(brigade, node) => [
+            0,
+            brigade,
+            (node.0 / 256) as u8,
+            (node.0 % 256) as u8,
+            p.0,
+            on,
+        ],
+        Target::Brigade(brigade) => [1, brigade, 0, 0, p.0, on],
+        Target::Everything => [2, 0, 0, 0, p.0, on],
+    }
+}
+
+// The bytes of all 32 places of entries.
+fn put_entries(image: &mut [u8], t: Table)
+    ensures { λ _. ⌜ now (image .exit) ≡ sets (now (image .entry)) entriesStart (joined entryBytes (entryAt t) mostEntries) ⌝ }
+{
+    let mut i: usize = 0;
+    while i < 32 {
+        let e = t.entries[i];
+        let b = entry_bytes(e);
+        buffer::put_all(image, ENTRIES_START + ENTRY_SIZE * i, &b);
+        i += 1;
+    }
+}
+
+// The table; bytes past the end of an image are left out.
+pub fn put_table(image: &mut [u8], t: Table)
+    ensures { λ _. ⌜ now (image .exit) ≡ sets (now (image .entry)) 0 (tableImage t) ⌝ }
+{
+    let n = t.node.0;
+    let head = [t.brigade, (n / 256) as u8, (n % 256) as u8, t.count];
+    buffer::put_all(image, 0, &head);
+    put_entries(image, t);
 }

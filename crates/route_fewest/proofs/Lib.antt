@@ -1,0 +1,10 @@
+pub mod Listed
+pub mod Near
+pub mod Routes
+pub mod Rest
+pub mod Hops
+pub mod Rounds
+pub mod Gathering
+pub mod Searching
+pub mod Aiming
+pub mod Promises
