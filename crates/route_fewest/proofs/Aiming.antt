@@ -21,7 +21,7 @@ use Rattle.route_links.specs.ByNode.{otherThan, leadsOut, leadsInto, linksOut, 
 use Rattle.route_links.specs.Contracts.{netOf, Holds}
 use Rattle.route_links.proofs.Table.{table-holds, table-sound, far-kept}
 use Rattle.route_fewest.specs.Fewest.{fewestOf, headOf, fewestFrom, firstLink}
-use Rattle.route_fewest.specs.Contracts.{toward, placeOf, firstLinkOver, firstLinksOver}
+use Rattle.route_fewest.specs.Contracts.{toward, linkPlace, firstLinkOver, firstLinksOver}
 
 module _ (ends : List (List ℕ)) (ways : List ℕ) (links : ℕ) (t : List ℕ) (T : ByNode (net ends ways links 0) t) where
   -- all but the goal's place is as it was
@@ -77,7 +77,7 @@ module _ (ends : List (List ℕ)) (ways : List ℕ) (links : ℕ) (t : List ℕ)
 
 -- the first link to a node, by the table
 unfoldable pub reached : List ℕ → ℕ → ℕ → ℕ
-reached t from to = placeOf (firstLink (toward t to) from)
+reached t from to = linkPlace (firstLink (toward t to) from)
 
 -- a row of what stands at its unused places
 firsts-same : {A : Type 0} (z : A) (n : ℕ) → firsts (λ i. z) n ≡ replicate n z
@@ -92,9 +92,9 @@ row-same z m n h =
     ap (λ l. l ++ replicate (m - n) z) (firsts-same z n) ∙ replicate-append-replicate n (m - n) z ∙ ap (λ (j : ℕ). replicate j z) k
 
 pub first-links-none : (ends : List (List ℕ)) (ways : List ℕ) (links nodes from : ℕ) → 16 ≤ from → replicate 16 48 ≡ firstLinksOver ends ways links nodes from
-unfolding firstLinksOver firstLinkOver placeOf
+unfolding firstLinksOver firstLinkOver linkPlace
 first-links-none ends ways links nodes from h =
-    sym (row-agree 16 48 (λ to. placeOf (firstLinkOver ends ways links from to)) (λ to. 48) (min nodes 16) (λ to l. rw (le-ltb from 16 h) refl)
+    sym (row-agree 16 48 (λ to. linkPlace (firstLinkOver ends ways links from to)) (λ to. 48) (min nodes 16) (λ to l. rw (le-ltb from 16 h) refl)
     ∙ row-same 48 16 (min nodes 16) (omega arith))
 
 -- those to the first nodes are filled in
@@ -107,7 +107,7 @@ pub fill-starts : (t : List ℕ) (nodes from : ℕ) → Filled t nodes from (rep
 fill-starts t nodes from = record { below = omega arith; room = omega arith; is = sym (row-none 16 48 (reached t from)) }
 
 module _ (t : List ℕ) (nodes from : ℕ) (first : List ℕ) (to : ℕ) (F : Filled t nodes from first to) where
-  pub fill-turns : to < nodes → to < 16 → (r : ℕ) → r ≡ placeOf (firstLink (toward t to) from) → Filled t nodes from (set first to r) (to + 1)
+  pub fill-turns : to < nodes → to < 16 → (r : ℕ) → r ≡ linkPlace (firstLink (toward t to) from) → Filled t nodes from (set first to r) (to + 1)
   unfolding reached
   fill-turns h l r e =
       record {
@@ -122,8 +122,8 @@ module _ (t : List ℕ) (nodes from : ℕ) (first : List ℕ) (to : ℕ) (F : Fi
   fill-ends l ends ways links T e =
       F .is
       ∙ ap (row 16 48 (reached t from)) (all (ltb to nodes) refl (ltb to 16) refl e)
-      ∙ row-agree 16 48 (reached t from) (λ to. placeOf (firstLinkOver ends ways links from to)) (min nodes 16)
-      (λ to h. rw (lt-ltb from 16 l) (ap placeOf (first-same ends ways links t T to from l)))
+      ∙ row-agree 16 48 (reached t from) (λ to. linkPlace (firstLinkOver ends ways links from to)) (min nodes 16)
+      (λ to h. rw (lt-ltb from 16 l) (ap linkPlace (first-same ends ways links t T to from l)))
     where
       all : (x : Bool) → ltb to nodes ≡ x → (y : Bool) → ltb to 16 ≡ y → (x && y) ≡ false → to ≡ min nodes 16
       all true p true q k = absurd (both-ways refl k)

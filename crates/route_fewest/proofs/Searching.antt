@@ -21,7 +21,7 @@ use Rattle.route_links.proofs.Digits.{has-or, has-and, has-without, has-alone, 
 use Rattle.route_ahead.proofs.Looking.{node, node-is, positive}
 use Rattle.route_fewest.specs.declared.Spread.{Spread}
 use Rattle.route_fewest.specs.Fewest.{firstLink, leadsTo, someLeads, near}
-use Rattle.route_fewest.specs.Contracts.{hop, toward, placeOf, SpreadOf}
+use Rattle.route_fewest.specs.Contracts.{hop, toward, linkPlace, SpreadOf}
 use Rattle.route_fewest.proofs.Hops.{first-is-hop, first-here}
 use Rattle.route_fewest.proofs.Rounds.{Round, round-starts, round-found, round-ends, Enters, Into, OutOf, nearer-is, round-on}
 
@@ -40,9 +40,9 @@ search-starts t from to h ne = (0, subst (λ p. Round (toward t to) from 0 16 p 
     front-is n = sym (ap (λ (w : ℕ). has w n) (node-is to h) ∙ has-alone to n (omega arith))
 
 -- the node itself has no first link
-pub search-here : (t : List ℕ) (from to : ℕ) → from ≡ to → 48 ≡ placeOf (firstLink (toward t to) from)
-unfolding placeOf
-search-here t from to e = sym (ap placeOf (first-here (toward t to) from e))
+pub search-here : (t : List ℕ) (from to : ℕ) → from ≡ to → 48 ≡ linkPlace (firstLink (toward t to) from)
+unfolding linkPlace
+search-here t from to e = sym (ap linkPlace (first-here (toward t to) from e))
 
 module _ (t : List ℕ) (T : Walkable t) (to : ℕ) where
   sound : Sound (toward t to)
@@ -86,9 +86,9 @@ module _ (t : List ℕ) (T : Walkable t) (to : ℕ) where
   first-of from h ne = sym (first-is-hop (toward t to) sound from h ne)
 
   module _ (from : ℕ) (place : from < 16) (ne : ¬ (from ≡ to)) (front seen left : ℕ) where
-    pub search-ends : Searched t from to front seen left → (front ≡ 0) ⊎ (left ≡ 0) → 48 ≡ placeOf (firstLink (toward t to) from)
-    unfolding placeOf
-    search-ends R z = sym (ap placeOf (sym (first-of from place ne) ∙ round-ends (toward t to) from (R .0) left (has front) (has seen) (R .1) (over z)))
+    pub search-ends : Searched t from to front seen left → (front ≡ 0) ⊎ (left ≡ 0) → 48 ≡ linkPlace (firstLink (toward t to) from)
+    unfolding linkPlace
+    search-ends R z = sym (ap linkPlace (sym (first-of from place ne) ∙ round-ends (toward t to) from (R .0) left (has front) (has seen) (R .1) (over z)))
       where
         over : (front ≡ 0) ⊎ (left ≡ 0) → ((n : ℕ) → has front n ≡ false) ⊎ (left ≡ 0)
         over (inl e) = inl (λ n. ap (λ (w : ℕ). has w n) e ∙ has-none n)
@@ -115,11 +115,11 @@ module _ (t : List ℕ) (T : Walkable t) (to : ℕ) where
 
       -- the lowest link from the node into what is seen is the first
       pub search-found : ¬ (bitAnd (getD t (16 + from) 0) (s .links) ≡ 0)
-          → trailingZeros 64 (bitAnd (getD t (16 + from) 0) (s .links)) ≡ placeOf (firstLink (toward t to) from)
-      unfolding someLeads placeOf
+          → trailingZeros 64 (bitAnd (getD t (16 + from) 0) (s .links)) ≡ linkPlace (firstLink (toward t to) from)
+      unfolding someLeads linkPlace
       search-found some-nearer =
           let found = round-found (toward t to) from k (left - 1) (has front) (has seen) round (any-found leads 48 low below (first .passes)) in
-          sym (first-stop leads 48 low first) ∙ ap placeOf (sym found ∙ first-of from place ne)
+          sym (first-stop leads 48 low first) ∙ ap linkPlace (sym found ∙ first-of from place ne)
         where
           low : ℕ
           low = trailingZeros 64 nearer

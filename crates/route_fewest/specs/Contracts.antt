@@ -49,9 +49,9 @@ abbrev pub toward : List ℕ → ℕ → Net
 toward t to = record { nodes = mostNodes; links = mostLinks; far = netOf t .far; goal = to }
 
 -- a link's place; 48 for none
-unfoldable pub placeOf : Option ℕ → ℕ
-placeOf none = mostLinks
-placeOf (some i) = i
+unfoldable pub linkPlace : Option ℕ → ℕ
+linkPlace none = mostLinks
+linkPlace (some i) = i
 
 -- the links into some nodes, and the nodes from which these lead
 pub record SpreadOf (t : List ℕ) (front : ℕ) (r : Spread) : Type 0 where
@@ -66,4 +66,4 @@ firstLinkOver ends ways links from to = cond (ltb from mostNodes) (firstLink (ne
 
 -- for each of the first so many node places, in 16 places
 unfoldable pub firstLinksOver : List (List ℕ) → List ℕ → ℕ → ℕ → ℕ → List ℕ
-firstLinksOver ends ways links nodes from = row mostNodes mostLinks (λ to. placeOf (firstLinkOver ends ways links from to)) (min nodes mostNodes)
+firstLinksOver ends ways links nodes from = row mostNodes mostLinks (λ to. linkPlace (firstLinkOver ends ways links from to)) (min nodes mostNodes)

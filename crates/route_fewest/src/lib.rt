@@ -11,7 +11,7 @@ ghost use Prim.Native.Nat.{_<_};
 ghost use Rattle.chart.specs.Values.{mostNodes};
 ghost use Rattle.route_links.specs.Contracts.{Walkable};
 ghost use Rattle.route_fewest.specs.Fewest.{firstLink};
-ghost use Rattle.route_fewest.specs.Contracts.{toward, placeOf, SpreadOf, firstLinksOver};
+ghost use Rattle.route_fewest.specs.Contracts.{toward, linkPlace, SpreadOf, firstLinksOver};
 
 // The place that stands for no link.
 pub const NO_LINK: u8 = MOST_LINKS;
@@ -41,7 +41,7 @@ fn spread_of(t: &[u64; TABLE_SIZE], nodes: u16) -> Spread
 // The first link of the first route with the fewest links from a node to another; 48 where there is none, and for the node itself.
 fn first_link(t: &[u64; TABLE_SIZE], from: usize, to: usize) -> u8
     requires { ⌜ Walkable (now t) ⌝ ∗ ⌜ from < mostNodes ⌝ ∗ ⌜ to < mostNodes ⌝ }
-    ensures { λ r. ⌜ r ≡ placeOf (firstLink (toward (now (t .entry)) to) from) ⌝ }
+    ensures { λ r. ⌜ r ≡ linkPlace (firstLink (toward (now (t .entry)) to) from) ⌝ }
 {
     if from == to {
         return NO_LINK;

@@ -30,7 +30,7 @@ use Rattle.route_links.specs.Arrays.{net}
 use Rattle.route_links.proofs.Arrays.{far-place, sound}
 use Rattle.route_search.specs.Contracts.{routesOver}
 use Rattle.route_fewest.specs.Fewest.{fewestOf, headOf, fewestFrom, firstLink}
-use Rattle.route_fewest.specs.Contracts.{placeOf, firstLinkOver, firstLinksOver}
+use Rattle.route_fewest.specs.Contracts.{linkPlace, firstLinkOver, firstLinksOver}
 use Rattle.route_fewest.proofs.Hops.{first-nearer}
 use Rattle.table_write.specs.declared.TableWritten.{TableWritten}
 use Rattle.table_write.specs.Writing.{firstLinkTo, entriesBy, tableWith, tableFor, tableRefusal, noTable, writeTableOf}
@@ -69,8 +69,8 @@ module _ (c : Chart) (s : Station) where
           omega (arith, ways-long (c .links))
       go false e = absurd (Option·none-ne-some i e)
 
-place-link : (o : Option ℕ) → ((i : ℕ) → o ≡ some i → i < 48) → linkOf (placeOf o) ≡ o
-unfolding linkOf placeOf
+place-link : (o : Option ℕ) → ((i : ℕ) → o ≡ some i → i < 48) → linkOf (linkPlace o) ≡ o
+unfolding linkOf linkPlace
 place-link none h = refl
 place-link (some i) h = rw (lt-ltb i 48 (h i refl))
 
@@ -81,7 +81,7 @@ module _ (c : Chart) (s : Station) (few : c .nodes .count ≤ 16) where
   link-kept : (b : ℕ) → b < c .nodes .count → linkIn firsts b ≡ firstLinkKept c s b
   unfolding linkIn firstLinksOver firstLinkKept elementAt
   link-kept b h =
-      let d : ℕ → ℕ = λ to. placeOf (firstLinkKept c s to) in
+      let d : ℕ → ℕ = λ to. linkPlace (firstLinkKept c s to) in
       ap linkOf (sym (row-at 16 48 d (min (c .nodes .count) 16) b (omega arith))) ∙ place-link (firstLinkKept c s b) (kept-place c s b)
 
   kept-table : tableOver c s firsts ≡ tableWith s (entriesBy (firstLinkKept c s) c s (c .nodes .count))
