@@ -10,7 +10,6 @@ tool=${self#"$root/"}
 cc=(gcc)
 shared_cc=(gcc)
 cxx=(g++)
-ar=(ar)
 nm=(nm)
 rust=(rustc -C linker=gcc)
 emulate=()
@@ -18,7 +17,6 @@ if [ "$(uname -m)" = aarch64 ]; then
     cc=(x86_64-linux-gnu-gcc -static)
     shared_cc=(x86_64-linux-gnu-gcc)
     cxx=(x86_64-linux-gnu-g++)
-    ar=(x86_64-linux-gnu-ar)
     nm=(x86_64-linux-gnu-nm)
     rust=(/usr/bin/rustc --target x86_64-unknown-linux-gnu
         -C linker=x86_64-linux-gnu-gcc -C target-feature=+crt-static)
@@ -88,14 +86,4 @@ run_program() {
     # A closed pipe is then a write that fails, and not the program's end.
     trap '' PIPE
     exec "${emulate[@]}" "$root/target/programs/$1" "${@:2}"
-}
-
-# For each check the prover writes what stands below the crate into files of its own: in memory,
-# where there is room for them.
-use_memory() {
-    local room
-    room=$(df -k --output=avail /dev/shm 2>/dev/null | tail -n 1 || true)
-    if [ -w /dev/shm ] && [ "${room:-0}" -gt 4000000 ]; then
-        export TMPDIR=/dev/shm
-    fi
 }

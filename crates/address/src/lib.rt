@@ -1,5 +1,7 @@
 // Addresses (3.2): three kinds of number that are never mixed, the station and the address made of them. Its bytes are written and read by
 // `address_bytes`.
+#![tactic(auto)]
+
 ghost use Rattle.std.specs.Prelude.{◌≡◌};
 ghost use Rattle.address.specs.Address.{station_of, station_in_range, in_range, same_station, same_address};
 
@@ -11,24 +13,24 @@ pub const LARGEST_PORT: u8 = 63;
 
 pub const LARGEST_SEQ: u16 = 32767;
 
-#[derive(Drop)]
+#[derive(Clone, Copy)]
 pub struct Node(pub u16);
 
-#[derive(Drop)]
+#[derive(Clone, Copy)]
 pub struct Port(pub u8);
 
-#[derive(Drop)]
+#[derive(Clone, Copy)]
 pub struct Seq(pub u16);
 
 // A node of the network, with its brigade or agency.
-#[derive(Drop)]
+#[derive(Clone, Copy)]
 pub struct Station {
     pub brigade: u8,
     pub node: Node,
 }
 
 // A port of a station. Port 0 is the router. In this order the three fields leave no byte between them unused, so that rows of addresses are filled and copied at once.
-#[derive(Drop)]
+#[derive(Clone, Copy)]
 pub struct Address {
     pub brigade: u8,
     pub port: Port,

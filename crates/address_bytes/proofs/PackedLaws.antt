@@ -2,7 +2,7 @@
 use Prim.Native.Nat.{ℕ, ◌+◌, ◌*◌, ◌/◌, ◌%◌, ◌<◌, ◌≤◌}
 use mathlib.Core.Path.{◌≡◌, refl, sym, ap, ◌∙◌}
 use mathlib.Core.Bool.{Bool, true, false}
-use mathlib.Core.List.{List, [], ◌∷◌, ◌++◌}
+use mathlib.Core.List.{List}
 use native.Mathlib.Omega.{arith}
 use lib.Dec.{eqb}
 use lib.ListN.{get_or}
@@ -11,7 +11,7 @@ use Rattle.buffer.specs.Bytes.{Bytes}
 use Rattle.address.specs.declared.Address.{Address}
 use Rattle.address.specs.Address.{station_in_range, in_range, same_address}
 use Rattle.address.proofs.Laws.{brigade-le, node-le, port-le, same-eq, same_refl}
-use Rattle.address_bytes.specs.Packed.{packed_bytes, packed_in, address_key}
+use Rattle.address_bytes.specs.Packed.{packed_in, address_key}
 use Rattle.address_bytes.specs.Promises.{PackedUndo}
 
 node-back : (n p : ℕ) → n ≤ 1023 → p ≤ 63 → n / 4 % 256 * 4 + (n % 4 * 64 + p % 64) / 64 ≡ n

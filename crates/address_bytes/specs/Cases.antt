@@ -1,5 +1,5 @@
 -- 9/21/5 as bytes, in the wire's form (003, appendix A, <comms_address>) and in that of charts and images.
-use Rattle.std.specs.Prelude.{◌≡◌, refl, List, [], ◌∷◌}
+use Rattle.std.specs.Prelude.{◌≡◌, refl, [], ◌∷◌}
 use Rattle.address.specs.Address.{station_of, address_of}
 use Rattle.address_bytes.specs.Packed.{packed_bytes, packed_in, address_key}
 use Rattle.address_bytes.specs.Wide.{station_bytes, address_bytes, station_in, address_in}

@@ -1,4 +1,6 @@
 // Addresses as bytes: in three on the wire (<comms_address>, appendix A), in four in charts and images. A byte past the end counts as 0.
+#![tactic(auto)]
+
 mod packed;
 mod wide;
 

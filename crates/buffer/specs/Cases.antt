@@ -1,5 +1,5 @@
 -- Two-byte numbers, and what a writer answers, by example.
-use Rattle.std.specs.Prelude.{ℕ, ◌≡◌, refl, List, [], ◌∷◌}
+use Rattle.std.specs.Prelude.{◌≡◌, refl, [], ◌∷◌}
 use Rattle.lists.specs.Refusals.{unless_refused}
 use Rattle.buffer.specs.declared.Written.TheVariants.{Wrote, Refused}
 use Rattle.buffer.specs.Bytes.{word_at, word_bytes}

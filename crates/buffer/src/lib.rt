@@ -1,10 +1,12 @@
 // Bytes of a slice, read and stored at any place: a place past the end reads as 0, and nothing is stored there. And what a writer of bytes answers.
+#![tactic(auto)]
+
 ghost use Rattle.std.specs.Prelude.{◌≡◌, ◌+◌, ◌*◌, ◌≤◌, length, get_or, replicate};
 ghost use Rattle.std.proofs.lemmas.List.Edits.{sets};
 ghost use Rattle.buffer.specs.Bytes.{word_at};
 
 // What a writer answers: the number of bytes written, or the refusal.
-#[derive(Drop)]
+#[derive(Clone, Copy)]
 pub enum Written {
     Wrote(usize),
     Refused(u8),

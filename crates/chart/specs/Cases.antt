@@ -1,5 +1,5 @@
 -- Each number of a node, a link and a question after those of S, by example (document 01, "The chart"; document 02, Five).
-use Rattle.std.specs.Prelude.{ℕ, ◌-◌, ◌≡◌, refl, Bool, true, false, List, [], ◌∷◌, ◌++◌, length, replicate}
+use Rattle.std.specs.Prelude.{ℕ, ◌≡◌, refl, Bool, true, false, List, [], ◌∷◌, replicate}
 use Rattle.lists.specs.Places.{any_below, element_at}
 use Rattle.address.specs.Address.{station_in_range, in_range, same_station, same_address}
 use Rattle.chart.specs.declared.Nodes.{Nodes}

@@ -1,4 +1,6 @@
 // The chart as values (document 01, "The chart"; document 02, Five): its nodes, its links and its question.
+#![tactic(auto)]
+
 ghost use Rattle.std.specs.Prelude.{◌≡◌};
 ghost use Rattle.chart.specs.Values.{no_node, no_link, no_chart};
 
@@ -23,7 +25,7 @@ pub const OUT_ONLY: u8 = 1;
 pub const BACK_ONLY: u8 = 2;
 
 // A node: its station, and the first `length` bytes of its label. No rule depends on labels.
-#[derive(Drop)]
+#[derive(Clone, Copy)]
 pub struct ChartNode {
     pub station: Station,
     pub length: u8,
@@ -31,7 +33,7 @@ pub struct ChartNode {
 }
 
 // A link between two ends, on or off, and its direction.
-#[derive(Drop)]
+#[derive(Clone, Copy)]
 pub struct Link {
     pub a: Address,
     pub b: Address,
@@ -40,14 +42,14 @@ pub struct Link {
 }
 
 // The first `count` items are nodes, the others unused.
-#[derive(Drop)]
+#[derive(Clone, Copy)]
 pub struct Nodes {
     pub count: u8,
     pub items: [ChartNode; 16],
 }
 
 // The first `count` items are links, the others unused; all are written in one form.
-#[derive(Drop)]
+#[derive(Clone, Copy)]
 pub struct Links {
     pub count: u8,
     pub form: u8,
@@ -55,7 +57,7 @@ pub struct Links {
 }
 
 // Nodes, links and the question.
-#[derive(Drop)]
+#[derive(Clone, Copy)]
 pub struct Chart {
     pub nodes: Nodes,
     pub links: Links,

@@ -1,4 +1,6 @@
 // A chart moved to the other form of links (document 02, Five): renewed to the directed one, restored to the plain one.
+#![tactic(auto)]
+
 ghost use Rattle.std.specs.Prelude.{◌≡◌, true, ◌≤◌, length};
 ghost use Rattle.chart.specs.Values.{most_links, plain, directed};
 ghost use Rattle.chart_read.specs.Fields.{is_form};
@@ -8,7 +10,7 @@ use buffer::Written;
 use chart::{BOTH_WAYS, Chart, DIRECTED, Links, PLAIN};
 
 // The number, the place of the field that the chart's number refuses, else 0, and how many bytes were written.
-#[derive(Drop)]
+#[derive(Clone, Copy)]
 pub struct Moved {
     pub refusal: u8,
     pub place: usize,

@@ -1,4 +1,6 @@
 // The image of a chart, 937 bytes (include/poztecameh.h): a chart put into it, and taken from it.
+#![tactic(auto)]
+
 use chart::{MOST_LINKS, MOST_NODES};
 use chart_read::DIRECTED_LENGTH;
 

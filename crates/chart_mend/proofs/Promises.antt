@@ -320,7 +320,7 @@ module _ (bytes : List ℕ) where
   taken-so-far {s} g [] after q = none-taken s
   taken-so-far (ends h) (x ∷ before) after q = absurd (no_field [] x (before ++ after) q)
   taken-so-far (keeps {s} {t} {at} h e g) (x ∷ before) after q =
-      subst (λ (y : Seen). Taken s (y ∷ before)) (head-is q) (kept-taken s at before h e (taken-so-far g before after (rest-is q)))
+      subst (λ (y : Seen). Taken s (y ∷ before)) (head-is q) (kept-taken s at before h e (taken-so-far {s = held_past s bytes at} g before after (rest-is q)))
   taken-so-far (drops {s} {t} {at} n h e o g) (x ∷ before) after q =
       subst (λ (y : Seen). Taken s (y ∷ before)) (head-is q) (dropped-taken s at n before (taken-so-far g before after (rest-is q)))
 

@@ -1,4 +1,6 @@
 // Mending a damaged chart (document 02, Twelve): the fields that the reader would take, each after those kept before it, and a list of the others.
+#![tactic(auto)]
+
 ghost use Rattle.std.specs.Prelude.{◌≡◌, [], ◌∷◌, ◌++◌, ◌<◌, ◌≤◌, length};
 ghost use Rattle.buffer.specs.Bytes.{word_bytes};
 ghost use Rattle.buffer.specs.Writing.{lent_after};
@@ -20,7 +22,7 @@ const CHART_ASIDE: usize = 1113;
 const LIST_ASIDE: usize = 1536;
 
 // How many bytes were kept and how many listed; both 0 beside a refusal.
-#[derive(Drop)]
+#[derive(Clone, Copy)]
 pub struct Mended {
     pub refusal: u8,
     pub kept: usize,
@@ -28,7 +30,7 @@ pub struct Mended {
 }
 
 // What a pass over the fields comes to: whether the question is kept, and how many bytes are kept and listed.
-#[derive(Drop)]
+#[derive(Clone, Copy)]
 pub struct Sorted {
     pub asked: bool,
     pub kept: usize,

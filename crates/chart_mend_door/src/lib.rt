@@ -1,10 +1,11 @@
-// What C calls to mend a damaged chart (include/poztecameh.h).
+// What C calls to mend a damaged chart (include/poztecameh.h; poztecameh exports it).
+#![tactic(auto)]
+
 ghost use Rattle.std.specs.Prelude.{◌≡◌, length};
 ghost use Rattle.chart_mend_door.specs.Calls.{pz_mend_refusal, pz_mend_kept, pz_mend_listed, pz_mend_chart, pz_mend_list};
 
 // Writes the fields that the reader would take, and an entry for each other; `kept` and `listed` are how many bytes.
-#[unsafe(no_mangle)]
-pub extern "C" fn pz_mend(
+pub fn pz_mend(
     input: &[u8],
     chart: &mut [u8],
     kept: &mut u16,

@@ -1,5 +1,7 @@
 // What the trace keeps of a chart by value (document 01, "Routes and their order"; document 02, Five): the two ends of each link as node places, the way each
 // link is passed, and the places that the question names. Nodes are found by brigade and node number.
+#![tactic(auto)]
+
 ghost use Rattle.std.specs.Prelude.{◌≡◌, ◌≤◌};
 ghost use Rattle.chart_refuse.specs.Private.{KeysOf};
 ghost use Rattle.chart_net.specs.Net.{station_place};
@@ -10,7 +12,7 @@ use address::{Station, station_of};
 use chart::{BACK_ONLY, Chart, Link, Links, MOST_LINKS, MOST_NODES, Nodes};
 
 // The node places that the question names: where it begins, and where it ends.
-#[derive(Drop)]
+#[derive(Clone, Copy)]
 pub struct Asked {
     pub from: u8,
     pub to: u8,

@@ -1,4 +1,6 @@
 // The chart's reader (document 01, "The chart"; document 02, Five): tagged fields, taken one after the other.
+#![tactic(auto)]
+
 ghost use Rattle.std.specs.Prelude.{◌≡◌};
 ghost use Rattle.chart_read.specs.Reading.{refused_at, read_chart_of};
 
@@ -17,7 +19,7 @@ pub use numbers::{
 };
 
 // The chart, or the number of the first bad field and the place where it begins.
-#[derive(Drop)]
+#[derive(Clone, Copy)]
 pub struct ChartRead {
     pub refusal: u8,
     pub place: usize,
@@ -25,7 +27,7 @@ pub struct ChartRead {
 }
 
 // How many nodes and links were taken, the form of the links, and whether the question was.
-#[derive(Drop)]
+#[derive(Clone, Copy)]
 pub struct Counts {
     pub nodes: usize,
     pub links: usize,
@@ -34,7 +36,7 @@ pub struct Counts {
 }
 
 // A field's refusal, and the counts after it.
-#[derive(Drop)]
+#[derive(Clone, Copy)]
 pub struct Taken {
     pub refusal: u8,
     pub counts: Counts,

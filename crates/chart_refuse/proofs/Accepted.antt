@@ -1,7 +1,7 @@
 -- A chart is accepted exactly if each of its values passes its own tests.
 use Prim.Native.Nat.{ℕ, ◌<◌}
 use mathlib.Core.Path.{◌≡◌}
-use mathlib.Core.Bool.{Bool, true, false, ◌&&◌}
+use mathlib.Core.Bool.{false}
 use native.Mathlib.Omega.{arith}
 use borrow.Author.Tests.{le-ltb, lt-leb}
 use Rattle.lists.proofs.Bools.{and_left, and_right, or-no-left, or-no-right}

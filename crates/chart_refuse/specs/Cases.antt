@@ -1,5 +1,5 @@
 -- Charts given as values: S is accepted; the counts come first, then the first bad value.
-use Rattle.std.specs.Prelude.{ℕ, ◌≡◌, refl, true, false, List, [], ◌∷◌, set}
+use Rattle.std.specs.Prelude.{◌≡◌, refl, true, set}
 use Rattle.lists.specs.Chains.{first_refusal_below}
 use Rattle.lists.specs.Places.{any_below, element_at}
 use Rattle.address.specs.Address.{station_in_range, in_range, same_station, same_address}
@@ -8,7 +8,7 @@ use Rattle.chart.specs.declared.Links.{Links}
 use Rattle.chart.specs.declared.Chart.{Chart}
 use Rattle.chart.specs.Values.{no_chart, node_at, link_at, stray_byte, node_in_range, end_in_range, direction_in_range, link_in_range, stands_at, has_node, ends_at, has_end}
 use Rattle.chart.specs.Refusals.{node_refusal_by, link_refusal_by, question_refusal_by, node_refusal, link_refusal, question_refusal}
-use Rattle.chart.specs.Sample.{station_s, node_s, way_s, link_s, hill, S, S'}
+use Rattle.chart.specs.Sample.{node_s, way_s, link_s, hill, S, S'}
 use Rattle.chart_refuse.specs.Refusal.{node_refusal_at, link_refusal_at, chart_values_refusal, chart_refusal}
 
 -- S with other nodes or other links

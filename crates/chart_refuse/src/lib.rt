@@ -1,5 +1,7 @@
 // What refuses a chart (document 01, "The chart"): a node, a link or a question after those before it, 23 to 30, and a whole chart given as values. Found by
 // keys: a station or an end is one number, and compared at once.
+#![tactic(auto)]
+
 mod charts;
 mod keys;
 mod known;

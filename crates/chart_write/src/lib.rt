@@ -1,4 +1,6 @@
 // The chart's writer (document 01, "The chart"; document 02, Five): a chart given as values is refused by number, or its bytes are put into a lent buffer.
+#![tactic(auto)]
+
 ghost use Rattle.std.specs.Prelude.{◌≡◌, length};
 ghost use Rattle.lists.specs.Refusals.{unless_refused};
 ghost use Rattle.buffer.specs.Writing.{written_refusal, written_count};

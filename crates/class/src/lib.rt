@@ -1,5 +1,7 @@
 // A whole class in one box (document 02, Nine): up to 16 nodes of one chart, each with a table, and a message passed from one to the next. A node's table says
 // where a message goes, the chart's links where it comes in.
+#![tactic(auto)]
+
 ghost use Rattle.std.specs.Prelude.{◌≡◌, ◌<◌};
 ghost use Rattle.chart.specs.Values.{most_nodes};
 ghost use Rattle.class.specs.Class.{begun_at, ended_with, came_to, step_on};
@@ -32,7 +34,7 @@ pub const MET_BEFORE: u8 = 4;
 pub const LONGEST_WAY: usize = 17;
 
 // The node place where a message is, the port that it came in by, the nodes that it has met, and how it stands.
-#[derive(Drop)]
+#[derive(Clone, Copy)]
 pub struct Message {
     pub at: u8,
     pub arrival: Port,
@@ -41,7 +43,7 @@ pub struct Message {
 }
 
 // A message, or the number of a refusal and where the chart's refused field begins.
-#[derive(Drop)]
+#[derive(Clone, Copy)]
 pub struct Sent {
     pub refusal: u8,
     pub place: usize,
@@ -49,7 +51,7 @@ pub struct Sent {
 }
 
 // The node places that a message came to, in order, and how it ended; or a refusal.
-#[derive(Drop)]
+#[derive(Clone, Copy)]
 pub struct Passed {
     pub refusal: u8,
     pub place: usize,

@@ -10,7 +10,7 @@ use address::{Address, Port, Station};
 use chart::{BACK_ONLY, Chart, Link, Links, OUT_ONLY};
 
 // Where it comes in, if a link leaves the node by that port: at a node place, by a port.
-#[derive(Drop)]
+#[derive(Clone, Copy)]
 pub struct Coming {
     pub there: bool,
     pub node: u8,
@@ -68,8 +68,8 @@ fn away_end(l: Link, s: Station) -> Address
 
 // Where a message comes in that leaves the node at a place by the port.
 pub fn out_by(c: Chart, at: usize, p: Port) -> Coming
-    requires fact_1 { Accepted c }
-    requires fact_2 { at < c.nodes.count }
+    requires accepted { Accepted c }
+    requires there { at < c.nodes.count }
     ensures { coming_of result ≡ out_by c at p }
 {
     let nodes = c.nodes;

@@ -12,8 +12,8 @@ pub const TABLES_SIZE: usize = 3136;
 
 // What the node at a place chooses.
 pub fn choice_of(tables: &[u8], at: usize, d: Address, arrival: Port) -> Choice
-    requires fact_1 { tables_size ≤ length tables.now }
-    requires fact_2 { at < most_nodes }
+    requires whole { tables_size ≤ length tables.now }
+    requires within { at < most_nodes }
     ensures { result ≡ choose_of (tables_in tables.now at) d arrival }
 {
     let start = TABLE_SIZE * at;
@@ -22,8 +22,8 @@ pub fn choice_of(tables: &[u8], at: usize, d: Address, arrival: Port) -> Choice
 
 // The own station of its table, which was found in range.
 pub fn own_held(tables: &[u8], at: usize) -> Station
-    requires fact_1 { at < most_nodes }
-    requires fact_2 { table_in_range (tables_in tables.now at) ≡ true }
+    requires within { at < most_nodes }
+    requires ranged { table_in_range (tables_in tables.now at) ≡ true }
     ensures { result ≡ own_station (tables_in tables.now at) }
 {
     let start = TABLE_SIZE * at;

@@ -31,8 +31,8 @@ fn any_stray(tables: &[u8], n: usize) -> bool
 
 // Whether one of the first tables is not that of the node at its place.
 fn any_strange(nodes: Nodes, tables: &[u8]) -> bool
-    requires fact_1 { nodes.count ≤ most_nodes }
-    requires fact_2 { any_below (stray_table (tables_in tables.now)) nodes.count ≡ false }
+    requires counted { nodes.count ≤ most_nodes }
+    requires ranged { any_below (stray_table (tables_in tables.now)) nodes.count ≡ false }
     ensures { result ≡ any_below (strange_table nodes (tables_in tables.now)) nodes.count }
 {
     let n = nodes.count as usize;

@@ -1,4 +1,6 @@
-// What C calls to begin a message at a node (include/poztecameh.h).
+// What C calls to begin a message at a node (include/poztecameh.h; poztecameh exports it).
+#![tactic(auto)]
+
 ghost use Rattle.std.specs.Prelude.{◌≡◌, length};
 ghost use Rattle.address.specs.Address.{address_of, station_of};
 ghost use Rattle.class_begin_door.specs.Calls.{pz_begin_refusal, pz_begin_place, pz_begin_message};
@@ -7,8 +9,7 @@ use address::{Address, Node, Port, Station};
 use class_image::MESSAGE_SIZE;
 
 // Writes the image of a message that begins at a station; `place` is where the field begins that the chart's number refuses, else 0.
-#[unsafe(no_mangle)]
-pub extern "C" fn pz_begin(
+pub fn pz_begin(
     chart: &[u8],
     tables: &[u8],
     brigade: u8,

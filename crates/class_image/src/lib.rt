@@ -1,4 +1,6 @@
 // The image of a message, 5 bytes: node place 1, arrival port 1, nodes met 2, ending 1.
+#![tactic(auto)]
+
 ghost use Rattle.std.specs.Prelude.{◌≡◌};
 ghost use Rattle.std.proofs.lemmas.List.Edits.{sets};
 ghost use Rattle.class_image.specs.Message.{message_in, message_bytes};

@@ -1,4 +1,6 @@
-// What C calls to pass a message from node to node until it ends (include/poztecameh.h).
+// What C calls to pass a message from node to node until it ends (include/poztecameh.h; poztecameh exports it).
+#![tactic(auto)]
+
 ghost use Rattle.std.specs.Prelude.{◌≡◌, length};
 ghost use Rattle.address.specs.Address.{address_of, station_of};
 ghost use Rattle.class_pass_door.specs.Calls.{pz_pass_refusal, pz_pass_place, pz_pass_places, pz_pass_ending, pz_pass_way};
@@ -8,8 +10,7 @@ use class::LONGEST_WAY;
 
 // Writes the node places that a message comes to; `places` is how many, `ending` how it ended, `place` where the field begins that the chart's number
 // refuses, else 0.
-#[unsafe(no_mangle)]
-pub extern "C" fn pz_pass(
+pub fn pz_pass(
     chart: &[u8],
     tables: &[u8],
     brigade: u8,

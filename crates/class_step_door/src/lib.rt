@@ -1,4 +1,6 @@
-// What C calls to take a message a step on (include/poztecameh.h).
+// What C calls to take a message a step on (include/poztecameh.h; poztecameh exports it).
+#![tactic(auto)]
+
 ghost use Rattle.std.specs.Prelude.{◌≡◌};
 ghost use Rattle.address.specs.Address.{address_of};
 ghost use Rattle.class_step_door.specs.Calls.{pz_step_refusal, pz_step_place, pz_step_message};
@@ -7,8 +9,7 @@ use address::{Address, Node, Port};
 use class_image::MESSAGE_SIZE;
 
 // Writes the message of an image a step on; `place` is where the field begins that the chart's number refuses, else 0.
-#[unsafe(no_mangle)]
-pub extern "C" fn pz_step(
+pub fn pz_step(
     chart: &[u8],
     tables: &[u8],
     to_brigade: u8,

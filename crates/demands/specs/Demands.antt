@@ -1,5 +1,5 @@
 -- The three demands, in their order and words, as records of closed statements: over what C sees (numbers that come back, lent bytes, images), and over the values
--- that images stand for. `pzRead..` and the like are what the call pz_read gives (specs/Calls.antt of each door). proofs/Demands.antt proves all three.
+-- that images stand for. `pz_read_..` and the like are what the call pz_read gives (specs/Calls.antt of each door). proofs/Demands.antt proves all three.
 use Rattle.std.specs.Prelude.{ℕ, ◌≡◌, true, List, [], ◌∷◌, length}
 use Rattle.lists.specs.Refusals.{among, unless_refused}
 use Rattle.buffer.specs.Bytes.{Bytes}

@@ -1,4 +1,6 @@
 // The envelope (3.3, appendix A): its fields, where they stand in a frame, and the refusals that its reader and its writer share.
+#![tactic(auto)]
+
 use address::{Address, Seq};
 
 mod frame;
@@ -17,14 +19,14 @@ pub const CONTENTS_OFFSET: usize = 9;
 pub const SMALLEST_FRAME: usize = 10;
 
 // The number that refuses an envelope's values, or 0; beside 8 the place of the first destination that equals an earlier one.
-#[derive(Drop)]
+#[derive(Clone, Copy)]
 pub struct Judged {
     pub refusal: u8,
     pub twin: u8,
 }
 
 // The fixed fields of an envelope. The destinations and the contents stay in the frame.
-#[derive(Drop)]
+#[derive(Clone, Copy)]
 pub struct Fixed {
     pub source: Address,
     pub count: u8,

@@ -1,4 +1,6 @@
-// What C calls to read and to write a frame (include/poztecameh.h): through the image of its envelope, 267 bytes.
+// What C calls to read and to write a frame (include/poztecameh.h; poztecameh exports them): through the image of its envelope, 267 bytes.
+#![tactic(auto)]
+
 ghost use Rattle.std.specs.Prelude.{◌≡◌, length};
 ghost use Rattle.envelope_door.specs.Calls.{pz_read_refusal, pz_read_place, pz_read_image, stray_ack, pz_write_refusal, pz_write_count, pz_write_frame};
 
@@ -8,8 +10,7 @@ use envelope_image::ENVELOPE_SIZE;
 use envelope_read::Read;
 
 // Reads a frame, and writes its image; `place` is where a refused frame is at fault, else 0.
-#[unsafe(no_mangle)]
-pub extern "C" fn pz_read(frame: &[u8], image: &mut [u8], place: &mut u16) -> u8
+pub fn pz_read(frame: &[u8], image: &mut [u8], place: &mut u16) -> u8
     ensures { (result ≡ pz_read_refusal frame.now (length image.old)) × (place.new ≡ pz_read_place frame.now) × (image.new ≡ pz_read_image frame.now image.old) }
 {
     *place = 0;
@@ -42,8 +43,7 @@ fn stray_ack(count: u8, n: usize) -> u8
 }
 
 // Writes the frame of an image and some contents; `written` is how many bytes.
-#[unsafe(no_mangle)]
-pub extern "C" fn pz_write(image: &[u8], contents: &[u8], frame: &mut [u8], written: &mut u16) -> u8
+pub fn pz_write(image: &[u8], contents: &[u8], frame: &mut [u8], written: &mut u16) -> u8
     ensures { (result ≡ pz_write_refusal image.now (length contents.now) (length frame.old)) × (written.new ≡ pz_write_count image.now (length contents.now) (length frame.old)) × (frame.new ≡ pz_write_frame image.now contents.now frame.old) }
 {
     *written = 0;

@@ -1,4 +1,6 @@
 // The image of an envelope, 267 bytes (include/poztecameh.h): an envelope put into it, and taken from it.
+#![tactic(auto)]
+
 mod putting;
 mod taking;
 

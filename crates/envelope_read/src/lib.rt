@@ -1,4 +1,6 @@
 // The envelope read (3.3, appendix A): the fixed fields of a frame or its refusal, its contents, and its destinations.
+#![tactic(auto)]
+
 ghost use Rattle.std.specs.Prelude.{◌≡◌, false};
 ghost use Rattle.lists.specs.Refusals.{unless_refused};
 ghost use Rattle.address.specs.Address.{address_of};
@@ -23,21 +25,21 @@ pub use parts::{contents_of, destinations_of};
 const COUNT_PLACE: u16 = 4;
 
 // The fixed fields of a frame; or the number that refuses it, and the place of the first byte of the first field at fault.
-#[derive(Drop)]
+#[derive(Clone, Copy)]
 pub enum Read {
     Envelope(Fixed),
     Refused(u8, u16),
 }
 
 // A number that refuses a frame and its place, or 0 and 0.
-#[derive(Drop)]
+#[derive(Clone, Copy)]
 pub struct Fault {
     pub refusal: u8,
     pub place: u16,
 }
 
 // The destinations of an envelope. The unused places are zero.
-#[derive(Drop)]
+#[derive(Clone, Copy)]
 pub struct Destinations {
     pub count: u8,
     pub addresses: [Address; 63],

@@ -1,4 +1,6 @@
 // The envelope written (3.3, appendix A): its frame is put into a lent buffer, or a refusal is given and the buffer is left as it was.
+#![tactic(auto)]
+
 ghost use Rattle.std.specs.Prelude.{◌≡◌, length};
 ghost use Rattle.lists.specs.Places.{element_at};
 ghost use Rattle.address.specs.Address.{zero_address};

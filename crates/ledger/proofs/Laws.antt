@@ -9,9 +9,7 @@ use borrow.Author.Tests.{leb-true, ltb-true, ltb-false, eqb-true, eq-eqb, ne_eqb
 use Rattle.lists.specs.Places.{any_below, same_at, repeat_at, repeats, element_at, row}
 use Rattle.lists.proofs.Bools.{and_left, and_right, and_both, both-same}
 use Rattle.lists.proofs.Places.{any-agree, any-never, any_false, any_found, any-more, repeats-agree, row_at}
-use Rattle.address.specs.declared.Seq.{Seq}
-use Rattle.address.specs.declared.Address.{Address}
-use Rattle.address.specs.Address.{in_range, same_address}
+use Rattle.address.specs.Address.{in_range}
 use Rattle.address_bytes.specs.Packed.{address_key}
 use Rattle.address_bytes.proofs.PackedLaws.{key-same, key-small}
 use Rattle.ledger.specs.declared.Leg.{Leg}

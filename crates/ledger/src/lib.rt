@@ -1,4 +1,6 @@
 // The ledger of legs: what a leg is, what a ledger holds, and whether it obeys its rules. Each call on it has a crate of its own.
+#![tactic(auto)]
+
 ghost use Rattle.std.specs.Prelude.{◌≡◌};
 ghost use Rattle.ledger.specs.Rules.{no_leg, with_standing};
 
@@ -10,7 +12,7 @@ mod rules;
 pub use rules::{MOST_LEGS, is_open, is_open_leg, obeys};
 
 // `Waiting` is an open standing too: the call is being made.
-#[derive(Drop)]
+#[derive(Clone, Copy)]
 pub enum Standing {
     Open,
     Acknowledged,
@@ -20,7 +22,7 @@ pub enum Standing {
     Waiting,
 }
 
-#[derive(Drop)]
+#[derive(Clone, Copy)]
 pub struct Leg {
     pub source: Address,
     pub destination: Address,
@@ -30,14 +32,14 @@ pub struct Leg {
 }
 
 // The first `count` places hold legs, oldest first. Here, and in what holds a ledger, the larger field stands first: with no gap between fields the compiler makes fewer copies.
-#[derive(Drop)]
+#[derive(Clone, Copy)]
 pub struct Ledger {
     pub legs: [Leg; 128],
     pub count: u8,
 }
 
 // What answer and clear give: the number, and the ledger after the call.
-#[derive(Drop)]
+#[derive(Clone, Copy)]
 pub struct Outcome {
     pub ledger: Ledger,
     pub refusal: u8,

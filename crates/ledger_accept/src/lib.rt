@@ -1,4 +1,6 @@
 // Accept: a frame, a table and a ledger. The legs of a message that asks for an acknowledgement are added to the ledger, one for each destination.
+#![tactic(auto)]
+
 ghost use Rattle.std.specs.Prelude.{◌≡◌};
 ghost use Rattle.ledger_accept.specs.Accept.{accept_of};
 
@@ -14,7 +16,7 @@ mod adding;
 mod refusing;
 
 // The number, how many legs were added, the place of a refused frame, and the ledger after the call.
-#[derive(Drop)]
+#[derive(Clone, Copy)]
 pub struct Added {
     pub ledger: Ledger,
     pub refusal: u8,

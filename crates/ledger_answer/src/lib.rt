@@ -1,4 +1,6 @@
 // An answer settles the open leg that it names, or marks it as waiting.
+#![tactic(auto)]
+
 ghost use Rattle.std.specs.Prelude.{◌≡◌, true};
 ghost use Rattle.ledger_answer.specs.Answer.{standing_for, settled, waits, answered, answered_place, answer_of};
 ghost use Rattle.ledger.specs.Rules.{obeys};
@@ -11,7 +13,7 @@ const ALERTER: u8 = 2;
 
 const WAIT_ACK: u8 = 13;
 
-#[derive(Drop)]
+#[derive(Clone, Copy)]
 pub enum Reply {
     Ack,
     Nak(u8, u8),

@@ -1,4 +1,6 @@
 // Clear removes a settled leg.
+#![tactic(auto)]
+
 ghost use Rattle.std.specs.Prelude.{◌≡◌, ◌≤◌, ◌<◌};
 ghost use Rattle.ledger_clear.specs.Clear.{close_up, clear_of};
 ghost use Rattle.ledger.specs.Rules.{most_legs};

@@ -1,4 +1,6 @@
-// What C calls over a ledger (include/poztecameh.h): the ledger that an image stands for answers, and what that gives is put back.
+// What C calls over a ledger (include/poztecameh.h; poztecameh exports them): the ledger that an image stands for answers, and what that gives is put back.
+#![tactic(auto)]
+
 ghost use Rattle.std.specs.Prelude.{◌≡◌};
 ghost use Rattle.address.specs.Address.{address_of};
 ghost use Rattle.ledger_door.specs.Calls.{reply_of, pz_answer, pz_answer_image, pz_tick, pz_tick_image, pz_clear, pz_clear_image, pz_accept, pz_accept_image};
@@ -7,8 +9,7 @@ use address::{Address, Node, Port, Seq};
 use ledger_answer::Reply;
 
 // Takes a frame that came in by the arrival port; `added` is how many legs were added, `place` where a refused frame is at fault, else 0.
-#[unsafe(no_mangle)]
-pub extern "C" fn pz_accept(
+pub fn pz_accept(
     ledger: &mut [u8],
     frame: &[u8],
     arrival: u8,
@@ -39,8 +40,7 @@ fn reply_of(nak: u8, set: u8, code: u8) -> Reply
 }
 
 // Settles the open leg that an answer names.
-#[unsafe(no_mangle)]
-pub extern "C" fn pz_answer(
+pub fn pz_answer(
     ledger: &mut [u8],
     by_brigade: u8,
     by_node: u16,
@@ -73,8 +73,7 @@ pub extern "C" fn pz_answer(
 }
 
 // One tick for every leg; `ended` is how many timed out.
-#[unsafe(no_mangle)]
-pub extern "C" fn pz_tick(ledger: &mut [u8], ended: &mut u8) -> u8
+pub fn pz_tick(ledger: &mut [u8], ended: &mut u8) -> u8
     ensures { (result ≡ (pz_tick ledger.old).refusal) × (ended.new ≡ (pz_tick ledger.old).ended) × (ledger.new ≡ pz_tick_image ledger.old) }
 {
     let l = ledger_image::ledger_of(ledger);
@@ -85,8 +84,7 @@ pub extern "C" fn pz_tick(ledger: &mut [u8], ended: &mut u8) -> u8
 }
 
 // Removes the settled leg at a place.
-#[unsafe(no_mangle)]
-pub extern "C" fn pz_clear(ledger: &mut [u8], place: usize) -> u8
+pub fn pz_clear(ledger: &mut [u8], place: usize) -> u8
     ensures { (result ≡ (pz_clear ledger.old place).refusal) × (ledger.new ≡ pz_clear_image ledger.old place) }
 {
     let l = ledger_image::ledger_of(ledger);

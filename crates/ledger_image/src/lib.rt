@@ -1,4 +1,6 @@
 // The image of a ledger, 1,921 bytes: whether it can be read, the ledger in it, and a ledger put back into it after a call.
+#![tactic(auto)]
+
 ghost use Rattle.std.specs.Prelude.{◌≡◌, ◌≤◌, length};
 ghost use Rattle.lists.specs.Places.{any_below};
 ghost use Rattle.ledger_image.specs.Ledger.{ledger_size, stray_leg_held, readable_ledger, ledger_of};

@@ -1,4 +1,6 @@
 // A tick takes one from the count of each open leg, where that leg stands: `tick_leg` takes it by `&mut`, over two functions by value.
+#![tactic(auto)]
+
 ghost use Rattle.std.specs.Prelude.{◌≡◌, ◌≤◌};
 ghost use Rattle.ledger_tick.specs.Tick.{times_out, ticked_leg, tick_of};
 ghost use Rattle.ledger_tick.specs.Private.{ticked_first};
@@ -7,14 +9,14 @@ ghost use Rattle.ledger.specs.Rules.{most_legs};
 use ledger::{Ledger, Leg, Standing, is_open, obeys, with_standing};
 
 // What a tick of the first legs gives: the legs, and how many timed out.
-#[derive(Drop)]
+#[derive(Clone, Copy)]
 pub struct TickedLegs {
     pub legs: [Leg; 128],
     pub ended: usize,
 }
 
 // What tick gives: the number, how many legs timed out in this tick, and the ledger after it.
-#[derive(Drop)]
+#[derive(Clone, Copy)]
 pub struct Ticked {
     pub ledger: Ledger,
     pub refusal: u8,

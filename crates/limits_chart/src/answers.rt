@@ -1,15 +1,7 @@
 // What comes back, printed after the line that asked.
-
-// One value more.
-fn value(n: u64) {
-    io::write_all(1, b" ");
-    io::print_decimal(1, n);
-}
+use std::io::Result;
 
 // The number, and two values beside it.
-pub fn answered(number: u8, first: u64, second: u64) {
-    io::write_all(1, b":");
-    value(number as u64);
-    value(first);
-    value(second);
+pub fn answered(rt: &impl Print, number: u8, first: u64, second: u64) -> Result<()> {
+    print!(rt; ": {number} {first} {second}")
 }

@@ -7,19 +7,20 @@ use buffer::Written;
 use chart::{BOTH_WAYS, Chart, ChartNode, Link, Links, Nodes, PLAIN};
 use chart_read::ChartRead;
 use limits_script::{byte, bytes, taken};
+use std::io::Result;
 
 // The number, the place, and how many nodes.
-fn report(read: ChartRead) {
+fn report(rt: &impl Print, read: ChartRead) -> Result<()> {
     let c = read.chart;
     let nodes = c.nodes;
-    answered(read.refusal, read.place as u64, nodes.count as u64);
+    answered(rt, read.refusal, read.place as u64, nodes.count as u64)
 }
 
 // c length, then the chart's bytes: number, place, nodes
-pub fn read(v: &[u16; 64]) {
+pub fn read(rt: &impl Print, v: &[u16; 64]) -> Result<()> {
     let chart = bytes(v);
     let n = taken(v[0], &chart);
-    report(chart_read::read_chart(&chart[..n]));
+    report(rt, chart_read::read_chart(&chart[..n]))
 }
 
 // Nodes 9/0, 9/1 and so on, each with a label of so many bytes, which stay as they are; the place after them.
@@ -27,11 +28,9 @@ fn put_nodes(out: &mut [u8; 2000], count: u8, label: u8) -> usize
     ensures { result ≤ 80000 }
 {
     let mut at: usize = 0;
-    let mut i: u8 = 0;
-    while i < count {
+    for i in 0..count {
         buffer::put_all(out, at, &[1, 0, 3 + label % 32, 9, 0, i]);
         at += 6 + label as usize;
-        i += 1;
     }
     at
 }
@@ -61,11 +60,9 @@ fn put_links(out: &mut [u8; 2000], from: usize, count: u8) -> usize
     ensures { result ≤ 90000 }
 {
     let mut at = from;
-    let mut i: u8 = 0;
-    while i < count {
+    for i in 0..count {
         buffer::put_all(out, at, &link_bytes(i));
         at += 12;
-        i += 1;
     }
     at
 }
@@ -93,15 +90,15 @@ pub fn built(nodes: u16, links: u16, label: u16, to: u16) -> ChartRead {
 }
 
 // C nodes links label: number, place, nodes
-pub fn read_built(v: &[u16; 64]) {
-    report(built(v[0], v[1], v[2], 1));
+pub fn read_built(rt: &impl Print, v: &[u16; 64]) -> Result<()> {
+    report(rt, built(v[0], v[1], v[2], 1))
 }
 
 // What a writer answers: the number and how many bytes.
-fn report_written(answer: Written) {
+fn report_written(rt: &impl Print, answer: Written) -> Result<()> {
     match answer {
-        Written::Wrote(n) => answered(0, n as u64, 0),
-        Written::Refused(k) => answered(k, 0, 0),
+        Written::Wrote(n) => answered(rt, 0, n as u64, 0),
+        Written::Refused(k) => answered(rt, k, 0, 0),
     }
 }
 
@@ -162,46 +159,55 @@ fn links(count: u16, a: Address, b: Address) -> Links {
 }
 
 // Writes a chart that asks from 9/from to 9/to into a buffer of a length.
-fn write_into(nodes: Nodes, links: Links, from: u16, to: u16, room: u16) {
+fn write_into(
+    rt: &impl Print,
+    nodes: Nodes,
+    links: Links,
+    from: u16,
+    to: u16,
+    room: u16,
+) -> Result<()> {
     let c = Chart {
         nodes,
         links,
         from: station(from),
         to: station(to),
     };
-    put_into(c, room);
+    put_into(rt, c, room)
 }
 
 // Writes a chart into a buffer of a length.
-fn put_into(c: Chart, room: u16) {
+fn put_into(rt: &impl Print, c: Chart, room: u16) -> Result<()> {
     let mut out = [0u8; 1113];
     let n = taken(room, &out);
-    report_written(chart_write::write_chart(c, &mut out[..n]));
+    report_written(rt, chart_write::write_chart(c, &mut out[..n]))
 }
 
 // v nodes links label letter node a-node a-port b-node b-port to-node room: number, bytes, 0. The first node is 9/node and every other 9/20; every link is
 // from 9/a-node/a-port to 9/b-node/b-port; the question is from 9/node to 9/to-node.
-pub fn write(v: &[u16; 64]) {
+pub fn write(rt: &impl Print, v: &[u16; 64]) -> Result<()> {
     let ns = nodes(v[0], node(v[4], v[2], v[3]));
     write_into(
+        rt,
         ns,
         links(v[1], end(v[5], v[6]), end(v[7], v[8])),
         v[4],
         v[9],
         v[10],
-    );
+    )
 }
 
 // d form direction links room: number, bytes, 0. The nodes are 9/1 and 9/20; every link is from 9/1/2 to 9/20/1, of this form and direction.
-pub fn write_directed(v: &[u16; 64]) {
+pub fn write_directed(rt: &impl Print, v: &[u16; 64]) -> Result<()> {
     let ns = nodes(2, node(1, 0, 97));
     write_into(
+        rt,
         ns,
         links_of(byte(v[0]), byte(v[1]), v[2], end(1, 2), end(20, 1)),
         1,
         20,
         v[3],
-    );
+    )
 }
 
 fn least(n: u16, most: u16) -> u16 {
@@ -231,6 +237,6 @@ pub fn built_chart(nodes: u16, links: u16, label: u16, to: u16) -> Chart {
 }
 
 // V nodes links label room: number, bytes, 0
-pub fn write_built(v: &[u16; 64]) {
-    put_into(built_chart(v[0], v[1], v[2], 1), v[3]);
+pub fn write_built(rt: &impl Print, v: &[u16; 64]) -> Result<()> {
+    put_into(rt, built_chart(v[0], v[1], v[2], 1), v[3])
 }

@@ -4,6 +4,7 @@ use crate::charts::{put_built, station};
 use address::{Address, Node, Port};
 use class::{Message, Passed, Sent};
 use limits_script::{byte, taken};
+use std::io::Result;
 use table::{Entry, Table, Target};
 
 // The table of 9/node with so many entries, each everything out by a port.
@@ -31,10 +32,8 @@ fn put_at(tables: &mut [u8; 3200], place: u16, t: Table) {
 // The tables of 9/0 to 9/15, each with one entry.
 fn sending(port: u16) -> [u8; 3200] {
     let mut tables = [0u8; 3200];
-    let mut i: u16 = 0;
-    while i < 16 {
+    for i in 0..16u16 {
         put_at(&mut tables, i, table_of(i, 1, port));
-        i += 1;
     }
     tables
 }
@@ -56,17 +55,18 @@ fn passed(chart: &[u8; 2000], n: u16, tables: &[u8; 3200], size: u16, v: &[u16; 
     class::pass(&all[..long], &images[..many], station(v[7]), to(v[8], v[9]))
 }
 
-fn report(p: Passed) {
-    answered(p.refusal, p.count as u64, p.ending as u64);
+// The number, how many nodes it passed, and how it ended.
+fn report(rt: &impl Print, p: Passed) -> Result<()> {
+    answered(rt, p.refusal, p.count as u64, p.ending as u64)
 }
 
 // p nodes links bytes port place entries own from to-node to-port: number, nodes on the way, ending
-pub fn pass(v: &[u16; 64]) {
+pub fn pass(rt: &impl Print, v: &[u16; 64]) -> Result<()> {
     let mut chart = [b'a'; 2000];
     let n = put_built(&mut chart, v[0], v[1], 0, 0);
     let mut tables = sending(v[3]);
     put_at(&mut tables, v[4], table_of(v[6], v[5], v[3]));
-    report(passed(&chart, n, &tables, v[2], v));
+    report(rt, passed(&chart, n, &tables, v[2], v))
 }
 
 // A message a step on, likewise.
@@ -76,13 +76,14 @@ fn stepped(chart: &[u8; 2000], n: u16, tables: &[u8; 3200], node: u16, m: Messag
     class::step(&all[..long], tables, to(node, 1), m)
 }
 
-fn report_step(s: Sent) {
+// The number, and the message's place and ending.
+fn report_step(rt: &impl Print, s: Sent) -> Result<()> {
     let m = s.message;
-    answered(s.refusal, m.at as u64, m.ending as u64);
+    answered(rt, s.refusal, m.at as u64, m.ending as u64)
 }
 
 // q nodes links port place arrival met ending to-node: number, place, ending after it
-pub fn step(v: &[u16; 64]) {
+pub fn step(rt: &impl Print, v: &[u16; 64]) -> Result<()> {
     let mut chart = [b'a'; 2000];
     let n = put_built(&mut chart, v[0], v[1], 0, 0);
     let tables = sending(v[2]);
@@ -92,5 +93,5 @@ pub fn step(v: &[u16; 64]) {
         met: v[5],
         ending: byte(v[6]),
     };
-    report_step(stepped(&chart, n, &tables, v[7], m));
+    report_step(rt, stepped(&chart, n, &tables, v[7], m))
 }

@@ -2,6 +2,7 @@
 use crate::answers::answered;
 use buffer::Written;
 use limits_script::taken;
+use std::io::Result;
 
 // So many places before the end.
 fn before(n: usize, places: usize) -> usize {
@@ -12,30 +13,30 @@ fn before(n: usize, places: usize) -> usize {
 }
 
 // The number, the bytes written, and the fourth byte from their end.
-fn report(answer: Written, text: &[u8; 65536]) {
+fn report(rt: &impl Print, answer: Written, text: &[u8; 65536]) -> Result<()> {
     let all: &[u8] = text;
     match answer {
         Written::Wrote(n) => {
             let last = buffer::byte_at(all, before(n, 4));
-            answered(0, n as u64, last as u64)
+            answered(rt, 0, n as u64, last as u64)
         }
-        Written::Refused(k) => answered(k, 0, 0),
+        Written::Refused(k) => answered(rt, k, 0, 0),
     }
 }
 
 // The sheet of an input, in a buffer of so many bytes.
-fn sheet_in(input: &[u8], room: u16) {
-    let mut text = io::large_buffer();
+fn sheet_in(rt: &impl Print, input: &[u8], room: u16) -> Result<()> {
+    let mut text = [0u8; 65536];
     let m = taken(room, &text);
     let answer = sheet::write_sheet(input, &mut text[..m]);
-    report(answer, &text);
+    report(rt, answer, &text)
 }
 
 // s size room: number, bytes, the fourth from the end. The input is so many bytes 0.
-pub fn zeros(v: &[u16; 64]) {
+pub fn zeros(rt: &impl Print, v: &[u16; 64]) -> Result<()> {
     let input = [0u8; 4100];
     let n = taken(v[0], &input);
-    sheet_in(&input[..n], v[1]);
+    sheet_in(rt, &input[..n], v[1])
 }
 
 // The link at a place: ten from node 0 to 1, ten from 1 to 2, ten from 2 to 3.
@@ -47,10 +48,8 @@ fn link_bytes(i: u8) -> [u8; 12] {
 
 // Thirty links, after the nodes.
 fn put_links(out: &mut [u8; 500]) {
-    let mut i: u8 = 0;
-    while i < 30 {
+    for i in 0..30u8 {
         buffer::put_all(out, 24 + 12 * (i as usize), &link_bytes(i));
-        i += 1;
     }
 }
 
@@ -72,15 +71,15 @@ fn size(more: u16) -> u16 {
 }
 
 // The sheet of the first bytes of a chart.
-fn sheet_of(chart: &[u8; 500], size: u16, room: u16) {
+fn sheet_of(rt: &impl Print, chart: &[u8; 500], size: u16, room: u16) -> Result<()> {
     let all: &[u8] = chart;
     let n = taken(size, all);
-    sheet_in(&all[..n], room);
+    sheet_in(rt, &all[..n], room)
 }
 
 // S more room: number, bytes, the fourth from the end. The chart has 1,000 routes, or one more.
-pub fn thousand(v: &[u16; 64]) {
+pub fn thousand(rt: &impl Print, v: &[u16; 64]) -> Result<()> {
     let mut chart = [0u8; 500];
     put_chart(&mut chart, v[0]);
-    sheet_of(&chart, size(v[0]), v[1]);
+    sheet_of(rt, &chart, size(v[0]), v[1])
 }

@@ -1,6 +1,7 @@
 // The routing table of a node, written from a chart.
 use crate::answers::answered;
 use crate::charts::{built, station};
+use std::io::Result;
 use table::{MOST_ENTRIES, Table};
 use table_write::TableWritten;
 
@@ -18,18 +19,17 @@ fn last_port(t: Table) -> u64 {
 }
 
 // The number, how many entries, and the last one's port.
-fn report(written: TableWritten) {
+fn report(rt: &impl Print, written: TableWritten) -> Result<()> {
     let t = written.table;
-    answered(written.refusal, t.count as u64, last_port(t));
+    answered(rt, written.refusal, t.count as u64, last_port(t))
 }
 
 // T nodes links node: number, entries, the last entry's port
-pub fn write(v: &[u16; 64]) {
+pub fn write(rt: &impl Print, v: &[u16; 64]) -> Result<()> {
     let read = built(v[0], v[1], 0, 1);
     if read.refusal != 0 {
-        answered(read.refusal, 0, 0);
-        return;
+        return answered(rt, read.refusal, 0, 0);
     }
     let c = read.chart;
-    report(table_write::write_table(c, station(v[2])));
+    report(rt, table_write::write_table(c, station(v[2])))
 }

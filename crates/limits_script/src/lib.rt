@@ -1,7 +1,8 @@
 // The lines that ask of document 01's limits: where a line ends, its numbers, and these as bytes and as so many bytes of a slice. Printing is left to the
 // programs: no contract can say what is printed.
-ghost use Rattle.std.specs.Prelude.{◌≡◌, ◌+◌, ◌-◌, ◌≤◌, ◌%◌, min, length};
-ghost use Rattle.io.specs.Counts.{IsPrefixLen};
+#![tactic(auto)]
+
+ghost use Rattle.std.specs.Prelude.{◌≡◌, ◌+◌, ◌-◌, ◌≤◌, ◌%◌, min, length, take};
 ghost use Rattle.limits_script.specs.Private.{line_end, longer_of, numbers_of, bytes_of};
 
 // Where the line that begins at a place ends: at its line feed, or with the text.
@@ -70,8 +71,9 @@ pub fn bytes(v: &[u16; 64]) -> [u8; 63]
 
 // So many bytes of a slice, or all of them where there are fewer.
 pub fn taken(n: u16, s: &[u8]) -> usize
-    ensures prefix_len { IsPrefixLen result s.now }
+    ensures within { result ≤ length s.now }
+    ensures prefix_len { result ≡ length (take result s.now) }
     ensures value { result ≡ min n (length s.now) }
 {
-    io::count(n as isize, s)
+    s.len().min(n as usize)
 }

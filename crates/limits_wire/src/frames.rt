@@ -5,6 +5,7 @@ use buffer::Written;
 use envelope::Fixed;
 use envelope_read::{Destinations, Read};
 use limits_script::{byte, bytes, taken};
+use std::io::Result;
 
 pub fn at(brigade: u16, node: u16, port: u16) -> Address {
     Address {
@@ -22,10 +23,8 @@ pub fn address(v: &[u16; 64], place: usize) -> Address {
 // 63 destinations, all different: 9/20/1, 9/21/1 and so on.
 fn places() -> [Address; 63] {
     let mut all = [at(9, 20, 1); 63];
-    let mut i: usize = 0;
-    while i < 63 {
+    for i in 0..63usize {
         all[i] = at(9, 20 + i as u16, 1);
-        i += 1;
     }
     all
 }
@@ -62,36 +61,39 @@ fn written_into(e: Fixed, to: [Address; 63], length: u16, room: u16) -> Written 
 }
 
 // What a writer answers: the number and how many bytes.
-fn report_written(answer: Written) {
+fn report_written(rt: &impl Print, answer: Written) -> Result<()> {
     match answer {
-        Written::Wrote(n) => answered(0, n as u64, 0),
-        Written::Refused(k) => answered(k, 0, 0),
+        Written::Wrote(n) => answered(rt, 0, n as u64, 0),
+        Written::Refused(k) => answered(rt, k, 0, 0),
     }
 }
 
 // w destinations contents priority version type node port sequence to-node to-port room: number, bytes, 0. The destinations after the first are 9/21/1,
 // 9/22/1 and so on.
-pub fn write(v: &[u16; 64]) {
-    report_written(written_into(fixed(v), with_first(address(v, 8)), v[1], v[10]));
+pub fn write(rt: &impl Print, v: &[u16; 64]) -> Result<()> {
+    report_written(
+        rt,
+        written_into(fixed(v), with_first(address(v, 8)), v[1], v[10]),
+    )
 }
 
 // An address: brigade, node, port.
-fn print_address(a: Address) {
-    value(a.brigade as u64);
-    value(a.node.0 as u64);
-    value(a.port.0 as u64);
+fn print_address(rt: &impl Print, a: Address) -> Result<()> {
+    value(rt, a.brigade as u64)?;
+    value(rt, a.node.0 as u64)?;
+    value(rt, a.port.0 as u64)
 }
 
 // The fixed fields, in the order in which they are declared.
-fn print_fields(e: Fixed) {
-    print_address(e.source);
-    value(e.count as u64);
-    value(e.length as u64);
-    value(e.priority as u64);
-    value(e.version as u64);
-    value(e.ack as u64);
-    value(e.seq.0 as u64);
-    value(e.kind as u64);
+fn print_fields(rt: &impl Print, e: Fixed) -> Result<()> {
+    print_address(rt, e.source)?;
+    value(rt, e.count as u64)?;
+    value(rt, e.length as u64)?;
+    value(rt, e.priority as u64)?;
+    value(rt, e.version as u64)?;
+    value(rt, e.ack as u64)?;
+    value(rt, e.seq.0 as u64)?;
+    value(rt, e.kind as u64)
 }
 
 // The last of the destinations.
@@ -102,28 +104,28 @@ fn last(to: Destinations) -> Address {
 
 // What a frame is read as: the number, how many destinations, how many bytes of contents; of an envelope also its fixed fields and its last destination, of a
 // refused frame the place.
-fn report(frame: &[u8]) {
+fn report(rt: &impl Print, frame: &[u8]) -> Result<()> {
     let to = envelope_read::destinations_of(frame);
     let contents = envelope_read::contents_of(frame);
     match envelope_read::read_frame(frame) {
         Read::Envelope(e) => {
-            answered(0, to.count as u64, contents.len() as u64);
-            print_fields(e);
-            print_address(last(to))
+            answered(rt, 0, to.count as u64, contents.len() as u64)?;
+            print_fields(rt, e)?;
+            print_address(rt, last(to))
         }
         Read::Refused(k, place) => {
-            answered(k, to.count as u64, contents.len() as u64);
-            value(place as u64)
+            answered(rt, k, to.count as u64, contents.len() as u64)?;
+            value(rt, place as u64)
         }
     }
 }
 
 // f length, then the frame's bytes: number, destinations, contents; of a refused frame then the place; where the number is 0 then the source's brigade, node and port, count, length,
 // priority, version, ack, sequence number and type, and the last destination's brigade, node and port
-pub fn read(v: &[u16; 64]) {
+pub fn read(rt: &impl Print, v: &[u16; 64]) -> Result<()> {
     let frame = bytes(v);
     let n = taken(v[0], &frame);
-    report(&frame[..n]);
+    report(rt, &frame[..n])
 }
 
 // A frame of priority 1 and type 2, at the start of 2,000 bytes.
@@ -152,8 +154,8 @@ pub fn written(
 }
 
 // F destinations contents length ack sequence: as f. The frame is from 9/1/5.
-pub fn read_written(v: &[u16; 64]) {
+pub fn read_written(rt: &impl Print, v: &[u16; 64]) -> Result<()> {
     let frame = written(at(9, 1, 5), v[0], v[1], v[3] == 1, v[4]);
     let n = taken(v[2], &frame);
-    report(&frame[..n]);
+    report(rt, &frame[..n])
 }

@@ -8,6 +8,7 @@ use ledger_accept::Added;
 use ledger_answer::Reply;
 use ledger_tick::Ticked;
 use limits_script::{byte, taken};
+use std::io::Result;
 use table::{Table, Target};
 
 // A standing by its number: 0 open, 1 acknowledged, 2 refused, 3 undeliverable, 4 timed out, else waiting.
@@ -43,12 +44,10 @@ fn later(s: Seq, step: u16) -> Seq {
 fn row(first: Leg, step: u16) -> [Leg; 128] {
     let mut leg = first;
     let mut all = [leg; 128];
-    let mut i: usize = 0;
-    while i < 128 {
+    for i in 0..128usize {
         all[i] = leg;
         let s = later(leg.seq, step);
         leg.seq = s;
-        i += 1;
     }
     all
 }
@@ -89,12 +88,11 @@ fn standing_at(l: Ledger, place: usize) -> u64 {
 }
 
 // The standings of the legs from a place up to another.
-fn print_standings(l: Ledger, from: u8, to: u8) {
-    let mut i = from;
-    while i < to {
-        value(standing_at(l, i as usize));
-        i += 1;
+fn print_standings(rt: &impl Print, l: Ledger, from: u8, to: u8) -> Result<()> {
+    for i in from..to {
+        value(rt, standing_at(l, i as usize))?;
     }
+    Ok(())
 }
 
 // Where the legs that were added begin.
@@ -103,11 +101,11 @@ fn stood(count: u8, added: u8) -> u8 {
 }
 
 // The number, how many legs were added, the last leg's ticks, and the standing of each that was added.
-fn report(after: Added) {
+fn report(rt: &impl Print, after: Added) -> Result<()> {
     let l = after.ledger;
     let last = leg_at(l, 127 + l.count as usize);
-    answered(after.refusal, after.added as u64, last.ticks as u64);
-    print_standings(l, stood(l.count, after.added), l.count);
+    answered(rt, after.refusal, after.added as u64, last.ticks as u64)?;
+    print_standings(rt, l, stood(l.count, after.added), l.count)
 }
 
 // Accepts the frame in the first n of 2,000 bytes.
@@ -141,28 +139,32 @@ fn size(destinations: u16) -> u16 {
 // a ledger brigade node port to-node to-port frame-brigade frame-node frame-port destinations ack ticks arrival on own-node: number, legs added, the last
 // leg's ticks after it, then the standing of each leg added. The ledger's legs are from brigade/node/port to 9/to-node/to-port; the frame is from
 // frame-brigade/frame-node/frame-port with sequence number 7; the table has one entry, for everything.
-pub fn accept(v: &[u16; 64]) {
+pub fn accept(rt: &impl Print, v: &[u16; 64]) -> Result<()> {
     let before = ledger(v, at(v[5], v[6], v[7]), address(v, 8));
-    report(accepted(
+    let after = accepted(
         before,
         asked_frame(v),
         size(v[13]),
         v[16],
         asked_table(v),
         v[15],
-    ));
+    );
+    report(rt, after)
 }
 
 // The number, how many legs timed out, and the first leg's ticks.
-fn report_tick(after: Ticked) {
+fn report_tick(rt: &impl Print, after: Ticked) -> Result<()> {
     let l = after.ledger;
     let first = leg_at(l, 0);
-    answered(after.refusal, after.ended as u64, first.ticks as u64);
+    answered(rt, after.refusal, after.ended as u64, first.ticks as u64)
 }
 
 // l ledger node port to-node to-port: number, legs timed out, the first leg's ticks after it
-pub fn tick(v: &[u16; 64]) {
-    report_tick(ledger_tick::tick(ledger(v, address(v, 5), address(v, 7))));
+pub fn tick(rt: &impl Print, v: &[u16; 64]) -> Result<()> {
+    report_tick(
+        rt,
+        ledger_tick::tick(ledger(v, address(v, 5), address(v, 7))),
+    )
 }
 
 // An acknowledgement, or a refusal with its reason set and code.
@@ -180,30 +182,31 @@ fn asked_reply(v: &[u16; 64]) -> Reply {
 }
 
 // The number, and the first leg's standing and ticks.
-fn report_answer(after: Outcome) {
+fn report_answer(rt: &impl Print, after: Outcome) -> Result<()> {
     let l = after.ledger;
     let first = leg_at(l, 0);
     let s = first.standing;
-    answered(after.refusal, standing_number(s), first.ticks as u64);
+    answered(rt, after.refusal, standing_number(s), first.ticks as u64)
 }
 
 // n ledger by-node by-port to-node to-port sequence nak set code: number, the first leg's standing, its ticks after it. Its legs are from 9/1/5 to 9/20/1.
-pub fn answer(v: &[u16; 64]) {
+pub fn answer(rt: &impl Print, v: &[u16; 64]) -> Result<()> {
     let before = ledger(v, at(9, 1, 5), at(9, 20, 1));
-    report_answer(ledger_answer::answer(
+    let after = ledger_answer::answer(
         before,
         address(v, 5),
         address(v, 7),
         Seq(v[9]),
         asked_reply(v),
-    ));
+    );
+    report_answer(rt, after)
 }
 
 // The number, how many legs, and the first leg's sequence number.
-fn report_clear(after: Outcome) {
+fn report_clear(rt: &impl Print, after: Outcome) -> Result<()> {
     let l = after.ledger;
     let first = leg_at(l, 0);
-    answered(after.refusal, l.count as u64, first.seq.0 as u64);
+    answered(rt, after.refusal, l.count as u64, first.seq.0 as u64)
 }
 
 // The ledger with the leg at a place cleared.
@@ -212,6 +215,6 @@ fn cleared(before: Ledger, place: u16) -> Outcome {
 }
 
 // k ledger place: number, legs left, the first leg's sequence number
-pub fn clear(v: &[u16; 64]) {
-    report_clear(cleared(ledger(v, at(9, 1, 5), at(9, 20, 1)), v[5]));
+pub fn clear(rt: &impl Print, v: &[u16; 64]) -> Result<()> {
+    report_clear(rt, cleared(ledger(v, at(9, 1, 5), at(9, 20, 1)), v[5]))
 }

@@ -1,46 +1,54 @@
 // Both sides of every limit of document 01 for frames, routing tables and ledgers. A line of standard input asks one thing: a letter for the call, its
 // numbers, and words that say what is tried. It is printed again with the number that came back and the values beside it. The file stdout has what
 // document 01 says; stdin explains the letters.
+#![tactic(auto)]
+
 mod answers;
 mod frames;
 mod ledgers;
 mod tables;
 
+use input_read::read_full;
 use limits_script::{line_end, numbers};
+use std::io::Result;
 
-fn answer(letter: u8, v: &[u16; 64]) {
+// Answers a line of numbers where its letter is a call's.
+fn answer(rt: &impl Print, letter: u8, v: &[u16; 64]) -> Result<()> {
     match letter {
-        b'w' => frames::write(v),
-        b'f' => frames::read(v),
-        b'F' => frames::read_written(v),
-        b't' => tables::choose(v),
-        b'a' => ledgers::accept(v),
-        b'l' => ledgers::tick(v),
-        b'n' => ledgers::answer(v),
-        b'k' => ledgers::clear(v),
-        _ => {}
+        b'w' => frames::write(rt, v),
+        b'f' => frames::read(rt, v),
+        b'F' => frames::read_written(rt, v),
+        b't' => tables::choose(rt, v),
+        b'a' => ledgers::accept(rt, v),
+        b'l' => ledgers::tick(rt, v),
+        b'n' => ledgers::answer(rt, v),
+        b'k' => ledgers::clear(rt, v),
+        _ => Ok(()),
     }
 }
 
 // One line: printed, and answered where its letter is a call's.
-fn answer_line(line: &[u8]) {
-    io::write_all(1, line);
+fn answer_line(rt: &impl Print, line: &[u8]) -> Result<()> {
+    rt.write_all(line)?;
     let v = numbers(line);
-    answer(buffer::byte_at(line, 0), &v);
-    io::write_all(1, b"\n");
+    answer(rt, buffer::byte_at(line, 0), &v)?;
+    println!(rt)
 }
 
-fn answer_all(text: &[u8]) {
+// Each line in turn.
+fn answer_all(rt: &impl Print, text: &[u8]) -> Result<()> {
     let mut at = 0;
     while at < text.len() {
         let end = line_end(text, at);
-        answer_line(&text[at..end]);
+        answer_line(rt, &text[at..end])?;
         at = end + 1;
     }
+    Ok(())
 }
 
-fn main() {
-    let mut input = io::large_buffer();
-    let n = io::read_full(0, &mut input);
-    answer_all(&input[..n]);
+// What stands past the first 65,536 bytes is not read.
+fn main(rt: HostRuntime) -> Result<()> {
+    let mut input = [0u8; 65536];
+    let n = read_full(&mut rt.stdin(), &mut input)?;
+    answer_all(&rt, &input[..n])
 }

@@ -1,7 +1,6 @@
 -- Conjunctions of tests, over plain Bools, and a Bool as a number.
 use Prim.Native.Nat.{◌≤◌}
 use mathlib.Core.Path.{◌≡◌, refl, sym, ◌∙◌}
-use borrow.Author.Tests.{not-true, not-false}
 use mathlib.Core.Bool.{Bool, true, false, not, cond, ◌&&◌, ◌||◌, true≢false}
 use mir.Val.{bool_byte}
 use native.Mathlib.Omega.{arith}
@@ -36,11 +35,11 @@ pub and_both : {x y : Bool} → x ≡ true → y ≡ true → (x && y) ≡ true
 and_both p q = rw (p, q)
 
 -- What a test of a call's result tells of the call's definition: r is the result, s what the callee ensures of it.
-pub told-no : {r s : Bool} → r ≡ s → not r ≡ true → s ≡ false
-told-no e h = sym e ∙ not-true _ h
+pub told-no : {r s : Bool} → r ≡ s → r ≡ false → s ≡ false
+told-no e h = sym e ∙ h
 
-pub told-yes : {r s : Bool} → r ≡ s → not r ≡ false → s ≡ true
-told-yes e h = sym e ∙ not-false _ h
+pub told-yes : {r s : Bool} → r ≡ s → r ≡ true → s ≡ true
+told-yes e h = sym e ∙ h
 
 pub told-true : {r s : Bool} → r ≡ s → r ≡ true → s ≡ true
 told-true e h = sym e ∙ h

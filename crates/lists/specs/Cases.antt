@@ -1,5 +1,5 @@
 -- Places, lists and chains of refusals by example.
-use Rattle.std.specs.Prelude.{ℕ, ◌≡◌, refl, true, false, List, [], ◌∷◌, eqb, ltb}
+use Rattle.std.specs.Prelude.{ℕ, ◌≡◌, refl, true, false, [], ◌∷◌, eqb, ltb}
 use Rattle.lists.specs.Places.{any_below, first_from, first_below, same_at, repeat_at, repeats, element_at, firsts, row, joined, up_to}
 use Rattle.lists.specs.Lists.{how_many, without}
 use Rattle.lists.specs.Refusals.{refuse, or_else, unless_refused, among}

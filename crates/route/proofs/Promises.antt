@@ -99,7 +99,7 @@ off-links G a i off r p h = off-from G i off p h
 module _ (G : Net) (i j : ℕ) (twins : (n : ℕ) → G.far i n ≡ G.far j n) (there : j < G.links) where
   twin-from : {at : ℕ} {met : ℕ → Bool} (p r : List ℕ) → IsRoute G at met (p ++ (i ∷ r)) → IsRoute G at met (p ++ (j ∷ r))
   twin-from {at = at} [] r (passed ne l e m q) = passed ne there (sym (twins at) ∙ e) m q
-  twin-from (k ∷ p) r (passed ne l e m q) = passed ne l e m (twin-from p r q)
+  twin-from {at = at} {met = met} (k ∷ p) r (passed {f = f} ne l e m q) = passed ne l e m (twin-from {at = f} p r q)
 
 unlike : (i j : ℕ) → (i ≡ j → ⊥) → (p r : List ℕ) → p ++ (i ∷ r) ≡ p ++ (j ∷ r) → ⊥
 unlike i j ne [] r e = ne (head-eq_of_cons-eq e)

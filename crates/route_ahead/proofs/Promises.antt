@@ -40,6 +40,7 @@ one-begins i ((j ∷ r) ∷ l) e = go (or_cases (eqb j i) (begins_one i l) e) (�
 
 begins-one : (i : ℕ) (r : List ℕ) (l : List (List ℕ)) → Memᴰ (i ∷ r) l → begins_one i l ≡ true
 unfolding begins_one begins_with
+begins-one i r [] x' = elim x' [ ]
 begins-one i r (s ∷ l) (Memᴰ.head e) = ap (λ q. begins_with i q || begins_one i l) (sym e) ∙ rw (eq-eqb i i refl) refl
 begins-one i r (s ∷ l) (Memᴰ.tail m) = rw (begins-one i r l m) (or-true (begins_with i s))
   where

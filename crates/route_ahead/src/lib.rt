@@ -1,5 +1,7 @@
 // The look ahead (document 02, Eleven): which links of a node begin a route, with some nodes met. A flood goes backwards from the goal over the links that
 // lead into each node, through nodes that are not met; one flood answers for all links of a node.
+#![tactic(auto)]
+
 ghost use Rattle.route_ahead.specs.Ahead.{LooksAhead, LooksOn, Reaches};
 
 use chart::MOST_NODES;

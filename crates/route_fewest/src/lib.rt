@@ -1,5 +1,7 @@
 // The first links of routes with the fewest links (document 02, Eight), over what the trace keeps by value. From the node asked for backwards, one link
 // further in each round, until a link leads from where one stands into what was reached.
+#![tactic(auto)]
+
 ghost use Rattle.std.specs.Prelude.{◌≡◌, ◌<◌};
 ghost use Rattle.chart.specs.Values.{most_nodes};
 ghost use Rattle.route_links.specs.Private.{Walkable};
@@ -13,7 +15,7 @@ use route_links::{FROM_ROW, OUT_ROW, TABLE_SIZE, links_by_node};
 pub const NO_LINK: u8 = MOST_LINKS;
 
 // How some nodes are come to: the links that lead into them, and the nodes from which these lead.
-#[derive(Drop)]
+#[derive(Clone, Copy)]
 pub struct Spread {
     pub links: u64,
     pub nodes: u16,
@@ -37,9 +39,9 @@ fn spread_of(t: &[u64; TABLE_SIZE], nodes: u16) -> Spread
 
 // The first link of the first route with the fewest links from a node to another; 48 where there is none, and for the node itself.
 fn first_link(t: &[u64; TABLE_SIZE], from: usize, to: usize) -> u8
-    requires fact_1 { Walkable t.now }
-    requires fact_2 { from < most_nodes }
-    requires fact_3 { to < most_nodes }
+    requires walkable { Walkable t.now }
+    requires from_node { from < most_nodes }
+    requires to_node { to < most_nodes }
     ensures { result ≡ link_place (first_link (toward t.now to) from) }
 {
     if from == to {

@@ -112,7 +112,7 @@ module _ (bytes buf : List ℕ) (js : List ℕ) where
   -- what the trace tells of an accepted chart
   told-or : {t : Told} → Tells js buf t → RouteOr (unread_refusals ++ js) buf (one_number t.answer) t.bytes
   told-or (a-route {n} e h) = inl (rw e h)
-  told-or (a-refusal {k} e h s) = inr (rw e (later k unread_refusals js h), s)
+  told-or (a-refusal {k} e h s) = inr (subst (λ (x : Traced). among (one_number x) (unread_refusals ++ js) ≡ true) (sym e) (later k unread_refusals js h), s)
 
   -- what comes of a refused one
   unread-or : ((read_chart_of bytes).refusal ≡ 0 → ⊥) → RouteOr (unread_refusals ++ js) buf (read_chart_of bytes).refusal buf

@@ -72,6 +72,7 @@ module _ (p : ℕ → Bool) where
 
   pub has-where : (i n j : ℕ) → Memᴰ j (where_from p i n) → p j ≡ true
   unfolding where_from
+  has-where i zero j m = elim m [ ]
   has-where i (suc n) j m = go (p i) refl m (λ k. has-where (suc i) n j k)
     where
       go : (b : Bool) → p i ≡ b → Memᴰ j (cond b (i ∷ where_from p (suc i) n) (where_from p (suc i) n)) → (Memᴰ j (where_from p (suc i) n) → p j ≡ true)
@@ -82,6 +83,7 @@ module _ (p : ℕ → Bool) where
 
   pub where_below : (i n j : ℕ) → Memᴰ j (where_from p i n) → j < i + n
   unfolding where_from
+  where_below i zero j m = elim m [ ]
   where_below i (suc n) j m = go (p i) m (λ k. where_below (suc i) n j k)
     where
       go : (b : Bool) → Memᴰ j (cond b (i ∷ where_from p (suc i) n) (where_from p (suc i) n)) → (Memᴰ j (where_from p (suc i) n) → j < suc i + n) → j < i + suc n

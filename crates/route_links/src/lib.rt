@@ -1,5 +1,7 @@
 // The links of a net kept beside their nodes (document 02, Ten), from the arrays that the trace keeps by value: for each node the set of links by which one
 // can go on from it, and of those by which one comes to it. A set is a word; its lowest digit is the link with the lowest place.
+#![tactic(auto)]
+
 ghost use Rattle.std.specs.Prelude.{◌≡◌, ◌<◌};
 ghost use Rattle.chart.specs.Values.{most_links};
 ghost use Rattle.route_links.specs.Arrays.{is_out, is_back, net};
@@ -36,8 +38,8 @@ fn is_back(way: u8) -> bool
 
 // Puts link i into the set at place p.
 fn put_in(t: &mut [u64; TABLE_SIZE], p: usize, i: usize)
-    requires fact_1 { p < table_size }
-    requires fact_2 { i < most_links }
+    requires place { p < table_size }
+    requires link { i < most_links }
     ensures { t.new ≡ put_in t.old p i }
 {
     t[p] = t[p] | (1u64 << i);

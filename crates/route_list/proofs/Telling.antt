@@ -207,8 +207,8 @@ module _ (ends : List (List ℕ)) (ways : List ℕ) (links from to : ℕ) (buf :
       over : {r : Listed} → Gives (list_refusal (routes_over ends ways links from to) (length buf)) (routes_over ends ways links from to) buf r (z.bytes ++ drop (16 * room) buf) → Lists r (z.bytes ++ drop (16 * room) buf)
       over {r} g = subst (λ (k : ℕ). Gives k rs buf r (z.bytes ++ drop (16 * room) buf)) numbered g
 
-      pub list_more : room < z.count → Lists (record { refusal = 0; count = room; more = true }) (z.bytes ++ drop (16 * room) buf)
-      list_more h = over (told_more rs short buf room q some z walked h)
+      pub lists_more : room < z.count → Lists (record { refusal = 0; count = room; more = true }) (z.bytes ++ drop (16 * room) buf)
+      lists_more h = over (told_more rs short buf room q some z walked h)
 
       pub list_all : (answer : Bool) → Reaches t from answer → answer ≡ true → z.count ≤ room → Lists (record { refusal = 0; count = z.count; more = false }) (z.bytes ++ drop (16 * room) buf)
       unfolding routes_over

@@ -1,4 +1,6 @@
 // The lister (document 02, Ten): all routes in one walk over the links kept beside their nodes, each in a slot of a lent buffer.
+#![tactic(auto)]
+
 ghost use Rattle.std.specs.Prelude.{◌≡◌, false, length};
 ghost use Rattle.route_search.specs.Private.{routes_over};
 ghost use Rattle.route_list.specs.Listing.{slot_room, list_answer, list_after};
@@ -16,7 +18,7 @@ pub const SLOT_SIZE: usize = 16;
 pub const MOST_SLOTS: usize = 4095;
 
 // How many routes were listed, and whether others follow; or the number of a refusal.
-#[derive(Drop)]
+#[derive(Clone, Copy)]
 pub struct Listed {
     pub refusal: u8,
     pub count: usize,

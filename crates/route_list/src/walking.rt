@@ -23,9 +23,9 @@ fn put(out: &mut [u8], n: usize, slot: [u8; 16])
 
 // The path is a route of d links: writes it at place n, if there is room, and counts it.
 fn arrive(d: usize, path: [u8; 16], out: &mut [u8], n: usize) -> usize
-    requires fact_1 { n ≤ room_in out.old }
-    requires fact_2 { d ≤ longest_route }
-    requires fact_3 { Cleared path d }
+    requires room { n ≤ room_in out.old }
+    requires depth { d ≤ longest_route }
+    requires cleared { Cleared path d }
     ensures { record { bytes = out.new; count = result } ≡ stow (record { bytes = out.old; count = n }) (links_in path d) }
 {
     if out.len() / SLOT_SIZE <= n {

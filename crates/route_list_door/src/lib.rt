@@ -1,10 +1,11 @@
-// What C calls for all routes that a chart's bytes ask for (include/poztecameh.h; document 02, Ten).
+// What C calls for all routes that a chart's bytes ask for (include/poztecameh.h; poztecameh exports it; document 02, Ten).
+#![tactic(auto)]
+
 ghost use Rattle.std.specs.Prelude.{◌≡◌, length};
 ghost use Rattle.route_list_door.specs.Calls.{pz_routes_refusal, pz_routes_place, pz_routes_count, pz_routes_more, pz_routes_slots};
 
 // Lists the routes; `count` is how many, `more` 1 where others follow, `place` where the field begins that the chart's number refuses, else 0.
-#[unsafe(no_mangle)]
-pub extern "C" fn pz_routes(
+pub fn pz_routes(
     chart: &[u8],
     slots: &mut [u8],
     count: &mut u16,

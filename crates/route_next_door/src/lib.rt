@@ -1,10 +1,11 @@
-// What C calls for the route after one that it has (include/poztecameh.h). What it gets is defined beside pz_first's.
+// What C calls for the route after one that it has (include/poztecameh.h; poztecameh exports it). What it gets is defined beside pz_first's.
+#![tactic(auto)]
+
 ghost use Rattle.std.specs.Prelude.{◌≡◌};
 ghost use Rattle.route_first_door.specs.Routes.{pz_next_number, pz_next_buffer};
 
 // Writes the route after the one of this length.
-#[unsafe(no_mangle)]
-pub extern "C" fn pz_next(chart: &[u8], route: &mut [u8], length: usize) -> u8
+pub fn pz_next(chart: &[u8], route: &mut [u8], length: usize) -> u8
     ensures { (result ≡ pz_next_number chart.now route.old length) × (route.new ≡ pz_next_buffer chart.now route.old length) }
 {
     let read = chart_read::read_chart(chart);

@@ -41,8 +41,8 @@ not_in w i e = ne_eqb (w / 2 ^ i % 2) 1 e
 
 module _ (G : Net) (sound : Sound G) where
   -- after what is no route there is none
-  no_route : (n : ℕ) (met : ℕ → Bool) (r : List ℕ) → (IsRoute G n met r → ⊥) → next_of (all_from G n met) r ≡ no_route
-  no_route n met r h = next-absent (all_from G n met) r (λ m. h (all_sound G n met r m))
+  next-no_route : (n : ℕ) (met : ℕ → Bool) (r : List ℕ) → (IsRoute G n met r → ⊥) → next_of (all_from G n met) r ≡ no_route
+  next-no_route n met r h = next-absent (all_from G n met) r (λ m. h (all_sound G n met r m))
 
   -- after i and a route from where it leads: that after the route, or else the least that begins with a later link
   next-step : (n i m : ℕ) (met : ℕ → Bool) (rest : List ℕ) → ¬ (n ≡ G.goal) → i < G.links → G.far i n ≡ some m → met m ≡ false
@@ -60,8 +60,8 @@ module _ (G : Net) (sound : Sound G) where
           → next_of (all_from G n met) (i ∷ rest) ≡ or_later (behind i (next_of (all_from G m (also m met)) rest)) (least_try G n met (suc i))
       go true h = next-on G sound n i m met rest ne l e f (is_route-yes G m (also m met) rest h)
       go false h =
-          no_route n met (i ∷ rest) (λ p. both_ways (is_route-of G (strip p)) h)
-          ∙ sym (ap (λ a. or_later (behind i a) (least_try G n met (suc i))) (no_route m (also m met) rest (λ p. both_ways (is_route-of G p) h)))
+          next-no_route n met (i ∷ rest) (λ p. both_ways (is_route-of G (strip p)) h)
+          ∙ sym (ap (λ a. or_later (behind i a) (least_try G n met (suc i))) (next-no_route m (also m met) rest (λ p. both_ways (is_route-of G p) h)))
 
 -- ---- over the table: r, whose first d links led to the node f
 
@@ -98,9 +98,9 @@ module _ (t : List ℕ) (f gone d : ℕ) (S : Standing t f gone d) (r : List ℕ
       go : (x : Bool) → over ≡ x → (y : Bool) → here ≡ y → (x && y) ≡ false → (x || y) ≡ true → next_of (all_from (net_of t) f (also f (met_of gone))) (drop d r) ≡ no_route
       go true p true q e o = absurd (both_ways refl e)
       go true p false q e o =
-          no_route (net_of t) sound f (also f (met_of gone)) (drop d r) (ended (drop d r) (drop_of_length-le r (leb-true (length r) d p)) (eqb-false f (get_or t 80 0) q))
+          next-no_route (net_of t) sound f (also f (met_of gone)) (drop d r) (ended (drop d r) (drop_of_length-le r (leb-true (length r) d p)) (eqb-false f (get_or t 80 0) q))
       go false p true q e o =
-          no_route (net_of t) sound f (also f (met_of gone)) (drop d r)
+          next-no_route (net_of t) sound f (also f (met_of gone)) (drop d r)
           (begun (drop d r) (get_or r d 0) (drop (suc d) r) (drop-cons r d 0 (leb-false (length r) d p)) (eqb-true f (get_or t 80 0) q))
       go false p false q e o = absurd (both_ways o refl)
 
@@ -122,7 +122,7 @@ module _ (t : List ℕ) (f gone d : ℕ) (S : Standing t f gone d) (r : List ℕ
     unfolding routes_on
     later-off e =
         rw (drop-cons r d 0 more)
-        (no_route (net_of t) sound f (also f (met_of gone)) (i ∷ drop (suc d) r)
+        (next-no_route (net_of t) sound f (also f (met_of gone)) (i ∷ drop (suc d) r)
         (λ p. both_ways ((opened t f gone d S).keeps i (drop (suc d) r) (omega arith) (subst (λ m. IsRoute (net_of t) f m (i ∷ drop (suc d) r)) (sym (met-after t f gone d S)) p)) e))
 
     pub later-past : 48 ≤ i → next_of (routes_on t f gone) (drop d r) ≡ no_route

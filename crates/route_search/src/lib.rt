@@ -1,5 +1,7 @@
 // The search for routes over what the trace keeps by value (document 01, "Routes and their order"): the two ends of each link as node places,
 // and the way each link is passed. It goes by the links of a node, which are kept beside it. It knows no chart: any arrays get an answer.
+#![tactic(auto)]
+
 ghost use Rattle.std.specs.Prelude.{◌≡◌, ◌≤◌, length};
 ghost use Rattle.lists.specs.Refusals.{unless_refused};
 ghost use Rattle.route_search.specs.Answers.{longest_route, traced_refusal, traced_length, first_route, next_route};
@@ -17,14 +19,14 @@ mod walking;
 pub const LONGEST_ROUTE: usize = 15;
 
 // What a trace answers: the length of the route it wrote, or a refusal's number.
-#[derive(Drop)]
+#[derive(Clone, Copy)]
 pub enum Traced {
     Route(u8),
     Refused(u8),
 }
 
 // A route, of which the links from some place on are filled in, with its whole length and the number 0; or the number of a refusal.
-#[derive(Drop)]
+#[derive(Clone, Copy)]
 pub struct Found {
     pub refusal: u8,
     pub len: usize,
@@ -33,8 +35,8 @@ pub struct Found {
 
 // Writes the route that was found, if one was.
 fn hand_over(f: Found, buf: &mut [u8]) -> Traced
-    requires fact_1 { f.len ≤ longest_route }
-    requires fact_2 { length f.route ≡ longest_route }
+    requires counted { f.len ≤ longest_route }
+    requires whole { length f.route ≡ longest_route }
     ensures { (result ≡ (handed_over f buf.old).answer) × (buf.new ≡ (handed_over f buf.old).bytes) }
 {
     if f.refusal != 0 {

@@ -1,5 +1,7 @@
 // The trace of a chart (document 01, "Routes and their order"; document 02, Ten): the least route that its question asks for, the least one after a given one,
 // and all of them.
+#![tactic(auto)]
+
 ghost use Rattle.std.specs.Prelude.{◌≡◌, length};
 ghost use Rattle.lists.specs.Refusals.{unless_refused};
 ghost use Rattle.route_search.specs.Answers.{traced_refusal, traced_length, first_route, next_route};

@@ -1,4 +1,6 @@
 // The printed sheet (document 01, "The printed sheet"; document 02, Five): what is printed of an input, in a lent buffer.
+#![tactic(auto)]
+
 ghost use Rattle.std.specs.Prelude.{◌≡◌, ◌≤◌, length};
 ghost use Rattle.lists.specs.Places.{joined};
 ghost use Rattle.lists.specs.Refusals.{unless_refused};

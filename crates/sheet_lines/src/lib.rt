@@ -1,4 +1,6 @@
 // The lines of the printed sheet but its routes (document 01, "The printed sheet"; document 02, Five).
+#![tactic(auto)]
+
 ghost use Rattle.std.specs.Prelude.{◌++◌, take};
 ghost use Rattle.text.specs.Private.{Laid};
 ghost use Rattle.text.specs.Marks.{blank, lf};

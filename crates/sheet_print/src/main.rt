@@ -1,42 +1,58 @@
 // Prints the sheet of the chart on standard input (document 01, "The printed sheet"). What can't be read or written is said on standard error.
-use buffer::Written;
-use libc::{STDIN_FILENO, STDOUT_FILENO};
+#![tactic(auto)]
 
-// Whether the input ends here. A read that fails is no end.
-fn at_end() -> bool {
-    let mut one = [0u8; 1];
-    libc::read(STDIN_FILENO, &mut one) == 0
+ghost use Rattle.std.specs.Prelude.{OnOk, IfSome};
+ghost use Rattle.std.specs.Io.KnownBytes.{Appends};
+ghost use Rattle.sheet.specs.Sheet.{sheet_text};
+
+use buffer::Written;
+use input_read::read_full;
+use std::io::{Read, Write};
+use std::{fmt, io};
+
+// What failed, and why.
+#[derive(Debug, Drop)]
+enum Failure {
+    Input(io::Error),
+    Output(io::Error),
 }
 
-// Writes the first n bytes of a text to standard output.
-fn show(text: &[u8], n: usize) {
-    if text.len() < n {
-        return;
-    }
-    if !io::write_all(STDOUT_FILENO, &text[..n]) {
-        os::fail(b"standard output");
+impl fmt::Display for Failure {
+    fn fmt<W: fmt::Write>(&self, f: &mut fmt::Formatter<W>) -> fmt::Result {
+        match self {
+            Failure::Input(error) => write!(f, "standard input: {error}"),
+            Failure::Output(error) => write!(f, "standard output: {error}"),
+        }
     }
 }
 
 // Shows the sheet of an input. No sheet is longer than the room for it.
-fn print(input: &[u8]) {
-    let mut text = io::large_buffer();
-    let answer = sheet::write_sheet(input, &mut text);
-    match answer {
-        Written::Wrote(n) => show(&text, n),
-        Written::Refused(_) => os::fail(b"sheet"),
+fn show<W: Write>(output: &mut W, input: &[u8]) -> Result<(), Failure>
+    ensures { OnOk result (Appends (W.contents output.old) (W.contents output.new) (sheet_text input.now)) }
+{
+    let mut text = [0u8; 65536];
+    match sheet::write_sheet(input, &mut text) {
+        Written::Wrote(n) => match output.write_all(&text[..n]) {
+            Ok(()) => Ok(()),
+            Err(error) => Err(Failure::Output(error)),
+        },
+        Written::Refused(_) => unreachable!(),
     }
 }
 
-// One byte more than the longest input tells that an input is too long.
-fn main() {
-    let mut input = [0u8; 4097];
-    let n = io::read_full(STDIN_FILENO, &mut input);
-    if n <= sheet::LONGEST_INPUT {
-        if !at_end() {
-            os::fail(b"standard input");
-            return;
-        }
+// Shows the sheet of all that an input holds. One byte more than the longest input tells that an input is too long.
+fn print<R: Read, W: Write>(input: &mut R, output: &mut W) -> Result<(), Failure>
+    ensures { OnOk result (IfSome (R.remaining input.old) (λ bytes. Appends (W.contents output.old) (W.contents output.new) (sheet_text bytes))) }
+{
+    let mut bytes = [0u8; 4097];
+    match read_full(input, &mut bytes) {
+        Ok(n) => show(output, &bytes[..n]),
+        Err(error) => Err(Failure::Input(error)),
     }
-    print(&input[..n]);
+}
+
+fn main(rt: HostRuntime) {
+    if let Err(failure) = print(&mut rt.stdin(), &mut rt.stdout()) {
+        let _ = eprintln!(rt; "{failure}");
+    }
 }

@@ -1,4 +1,6 @@
 // The route lines of the printed sheet (document 01, "The printed sheet"), from the slots of the lister.
+#![tactic(auto)]
+
 ghost use Rattle.std.specs.Prelude.{drop};
 ghost use Rattle.text.specs.Private.{Laid};
 ghost use Rattle.sheet_routes.specs.RouteLines.{most_routes, places_text, route_line, end_line, more_line, list_text};

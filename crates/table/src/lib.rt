@@ -1,4 +1,6 @@
 // The next route (document 01): a node's routing table, and where a message for a destination goes from here.
+#![tactic(auto)]
+
 ghost use Rattle.std.specs.Prelude.{◌≡◌, false};
 ghost use Rattle.lists.specs.Refusals.{unless_refused};
 ghost use Rattle.table.specs.Table.{no_entry, own_station, is_own, choose_of, choice_refusal, choice_local, choice_port, choose_refusal, choose_port};
@@ -14,14 +16,14 @@ pub use entries::qualifies;
 pub use ranges::{MOST_ENTRIES, table_in_range};
 
 // The destinations that an entry serves: one node, a whole brigade, or everything.
-#[derive(Drop)]
+#[derive(Clone, Copy)]
 pub enum Target {
     One(u8, Node),
     Brigade(u8),
     Everything,
 }
 
-#[derive(Drop)]
+#[derive(Clone, Copy)]
 pub struct Entry {
     pub target: Target,
     pub port: Port,
@@ -29,7 +31,7 @@ pub struct Entry {
 }
 
 // The own brigade and node, and the entries in order. Those past the count are not looked at. (In this order no gap lies between the fields.)
-#[derive(Drop)]
+#[derive(Clone, Copy)]
 pub struct Table {
     pub brigade: u8,
     pub count: u8,
@@ -38,7 +40,7 @@ pub struct Table {
 }
 
 // For this node at the port, or out by the port, or a refusal.
-#[derive(Drop)]
+#[derive(Clone, Copy)]
 pub enum Choice {
     Local(Port),
     Out(Port),

@@ -1,4 +1,6 @@
-// What C calls for the next route (include/poztecameh.h): the choice by the table that an image stands for.
+// What C calls for the next route (include/poztecameh.h; poztecameh exports it): the choice by the table that an image stands for.
+#![tactic(auto)]
+
 ghost use Rattle.std.specs.Prelude.{◌≡◌};
 ghost use Rattle.address.specs.Address.{address_of};
 ghost use Rattle.table_door.specs.Calls.{pz_choose_refusal, pz_choose_local, pz_choose_port};
@@ -7,8 +9,7 @@ use address::{Address, Node, Port};
 use table::Choice;
 
 // Where a message for the destination goes that came in by the arrival port: `local` 1, for this node at port `out`, or 0, out by port `out`.
-#[unsafe(no_mangle)]
-pub extern "C" fn pz_choose(
+pub fn pz_choose(
     table: &[u8],
     brigade: u8,
     node: u16,

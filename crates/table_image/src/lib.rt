@@ -1,4 +1,6 @@
 // The image of a routing table, 196 bytes: whether it can be read, the table in it, and a table put into it.
+#![tactic(auto)]
+
 ghost use Rattle.std.specs.Prelude.{◌≡◌, true, false, not, ◌+◌, ◌≤◌, length};
 ghost use Rattle.std.proofs.lemmas.List.Edits.{sets};
 ghost use Rattle.lists.specs.Places.{any_below, joined};
@@ -209,8 +211,8 @@ pub fn image_in_range(b: &[u8]) -> bool
 
 // The port of the first of the first n entries that qualifies, or 52.
 fn out_choice_in(b: &[u8], n: usize, d: Address, arrival: Port) -> Choice
-    requires fact_1 { readable_table b.now ≡ true }
-    requires fact_2 { n ≡ entry_count b.now }
+    requires readable { readable_table b.now ≡ true }
+    requires counted { n ≡ entry_count b.now }
     ensures { result ≡ out_choice (table_of b.now) d arrival }
 {
     let mut i = 0;

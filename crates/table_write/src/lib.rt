@@ -1,4 +1,6 @@
 // A node's routing table written from the chart (document 02, Eight).
+#![tactic(auto)]
+
 ghost use Rattle.std.specs.Prelude.{◌≡◌, ◌≤◌};
 ghost use Rattle.chart.specs.Values.{most_nodes};
 ghost use Rattle.table_write.specs.Writing.{near_end, entry_over, no_table, write_table_of};
@@ -9,7 +11,7 @@ use chart::{Chart, Link, MOST_LINKS, MOST_NODES};
 use table::{Entry, Table, Target};
 
 // The number, and the table; beside a refusal one of no node, without entries.
-#[derive(Drop)]
+#[derive(Clone, Copy)]
 pub struct TableWritten {
     pub refusal: u8,
     pub table: Table,

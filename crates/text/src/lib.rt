@@ -1,5 +1,7 @@
 // Text in a lent buffer: a byte past the end is not stored, and the place goes on counting. So writing into an empty buffer measures a text,
 // and no writer asks anything of its caller.
+#![tactic(auto)]
+
 ghost use Rattle.std.specs.Prelude.{◌≡◌, [], ◌∷◌, ◌+◌, min};
 ghost use Rattle.text.specs.Private.{Laid, last};
 ghost use Rattle.text.specs.Decimal.{digits, decimal};

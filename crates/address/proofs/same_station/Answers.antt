@@ -1,0 +1,8 @@
+-- `address::same_station` meets its contract: the code is the definition.
+use mathlib.Core.Path.{refl}
+use Rattle.address.specs.Address.{same_station}
+use Rattle.address.proofs.same_station.Goals as goal
+
+pub returns : goal.returns
+unfolding same_station
+returns c = refl

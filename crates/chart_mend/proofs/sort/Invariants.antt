@@ -1,0 +1,20 @@
+-- `chart_mend::sort` meets its contract. The loop's invariant: the fields behind it are stored, those before it are still to come, and the keys are those of
+-- what is held.
+use Prim.Native.Nat.{ℕ, ◌-◌}
+use mathlib.Core.Path.{ap, ◌∙◌}
+use native.Mathlib.Omega.{arith}
+use lib.ListN.{length}
+use lib.Seq.{length-sets}
+use borrow.Author.Rules.{rules}
+use Rattle.buffer.specs.Bytes.{Bytes}
+use Rattle.chart_read.specs.Private.{as_keys}
+use Rattle.chart_mend.proofs.Sorting.{Turn, Sorting, Field, sorting_start, few-kept, few-listed, goes_on, sorting-kept, sorting-dropped, sorting-end}
+use Rattle.chart_mend.proofs.sort.Given as goal
+
+abbrev pub invariant-loop-at : goal.invariant-loop-at
+invariant-loop-at l =
+    Sorting l.input l.initial.out l.initial.list (record { out = l.out; list = l.list; keys = as_keys l.keys l.akeys l.bkeys l.counts; kept = l.kept; listed = l.listed; at = l.at })
+
+abbrev pub decreases-loop-at : goal.decreases-loop-at
+decreases-loop-at l =
+    length l.input - l.at

@@ -1,0 +1,32 @@
+-- `envelope_read::frame::whole_fault` meets its contract: the tests on the way say which case of `whole_fault` holds.
+use Prim.Native.Nat.{◌-◌}
+use mathlib.Core.Path.{◌≡◌, sym, ◌∙◌}
+use lib.ListN.{length}
+use lib.Seq.{length-take-le}
+use Rattle.envelope.specs.Frame.{count_of, length_of, size_of}
+use Rattle.envelope_read.proofs.Laws.{whole-1, whole-2, whole-3, whole-0}
+use native.Mathlib.Omega.{arith}
+use borrow.Author.Rules.{rules}
+use Rattle.envelope_read.proofs.frame.whole_fault.Goals as goal
+
+pub returns-then-n-size : goal.returns-then-n-size
+unfolding count_of length_of
+returns-then-n-size c = whole-1 c.args.frame.now (omega arith)
+
+pub returns-then-size-n : goal.returns-then-size-n
+unfolding count_of length_of
+returns-then-size-n c = rw c.word_at-w.ensures (whole-2 c.args.frame.now (omega arith))
+
+pub returns-then-check-frame : goal.returns-then-check-frame
+unfolding count_of length_of
+returns-then-check-frame c =
+    let f = c.args.frame.now in
+    let e : length f ≡ size_of f = omega arith in
+    whole-3 f e (λ q. c.if-check-frame.true (c.check.ensures ∙ q))
+
+pub returns : goal.returns
+unfolding count_of length_of
+returns c =
+    let f = c.args.frame.now in
+    let e : length f ≡ size_of f = omega arith in
+    whole-0 f e (sym c.check.ensures ∙ c.if-check-frame.false)

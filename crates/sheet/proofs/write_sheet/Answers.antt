@@ -1,0 +1,40 @@
+-- `sheet::write_sheet` meets its contract: a buffer that holds any sheet is written at once; else writing into an empty one measures it, and only a text
+-- that fits is written.
+use Prim.Native.Nat.{◌≤◌, ◌<◌}
+use mathlib.Core.Path.{◌≡◌, ap}
+use native.Mathlib.Omega.{arith}
+use borrow.Author.Rules.{rules}
+use lib.ListN.{length}
+use Rattle.text.specs.Private.{last}
+use Rattle.sheet.specs.Sheet.{sheet_text}
+use Rattle.sheet.proofs.Laws.{sheet-refused, sheet-wrote, no_room, too_short, long-enough, as_lent}
+use Rattle.sheet.proofs.Promises.{sheet-short}
+use Rattle.sheet.proofs.write_sheet.Goals as goal
+
+pub returns-then-out-ge-LONGEST_SHEET : goal.returns-then-out-ge-LONGEST_SHEET
+returns-then-out-ge-LONGEST_SHEET c =
+    let a = c.args in
+    let put = c.put_sheet-all in
+    let h : length (sheet_text a.bytes.now) ≤ 47369 = sheet-short a.bytes.now (λ i. omega (arith, c.type_inv.bytes i)) in
+    let w = sheet-wrote a.bytes.now a.out.now (omega arith) (omega (arith, put.ensures.place)) put.ensures in
+    record { value = w.0; refusal = w.1.0; count = w.1.1.0; buffer = w.1.1.1 }
+
+pub returns-then-out-n : goal.returns-then-out-n
+returns-then-out-n c =
+    let a = c.args in
+    let out = a.out.now in
+    let first = c.put_sheet-n in
+    let h : length out < first.result = omega (arith, ap length (no_room out first.ensures)) in
+    let w = sheet-refused a.bytes.now out (too_short out first.ensures h) (no_room out first.ensures) in
+    record { value = w.0; refusal = w.1.0; count = w.1.1.0; buffer = w.1.1.1 }
+
+pub returns : goal.returns
+returns c =
+    let a = c.args in
+    let out = a.out.now in
+    let first = c.put_sheet-n in
+    let h : first.result ≤ length out = omega (arith, ap length (no_room out first.ensures)) in
+    let g : length out < last = omega arith in
+    let e : first.result ≡ length (sheet_text a.bytes.now) = long-enough out first.ensures h g in
+    let w = sheet-wrote a.bytes.now out (omega arith) e (as_lent out first.ensures c.put_sheet.ensures) in
+    record { value = w.0; refusal = w.1.0; count = w.1.1.0; buffer = w.1.1.1 }

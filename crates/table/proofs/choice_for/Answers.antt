@@ -1,0 +1,25 @@
+-- `table::choice_for` meets its contract: the count decides, then whether the destination is at the own station, else the entries.
+use mathlib.Core.Path.{◌≡◌, sym, ◌∙◌}
+use Rattle.lists.proofs.Bools.{told-true, told-false}
+use Rattle.table.specs.Table.{is_own}
+use Rattle.table.proofs.Laws.{tested-50, tested-here, tested-by, tested-told}
+use Rattle.table.proofs.choice_for.Goals as goal
+
+pub returns-then-table-gt-MOST_ENTRIES : goal.returns-then-table-gt-MOST_ENTRIES
+returns-then-table-gt-MOST_ENTRIES c =
+    let w = tested-told c.args.table c.args.destination c.args.arrival (sym (tested-50 _ _ _ c.if-table-gt-MOST_ENTRIES.true)) in
+    record { value = w.0; refusal = w.1.0; local = w.1.1.0; port = w.1.1.1 }
+
+pub returns-then-same_station : goal.returns-then-same_station
+unfolding is_own
+returns-then-same_station c =
+    let own : c.same_station.result ≡ is_own c.args.table c.args.destination = rw (c.same_station.ensures, c.station_of.ensures, c.own_station.ensures) in
+    let w = tested-told c.args.table c.args.destination c.args.arrival (sym (tested-here _ _ _ c.if-table-gt-MOST_ENTRIES.false (told-true own c.if-same_station.true))) in
+    record { value = w.0; refusal = w.1.0; local = w.1.1.0; port = w.1.1.1 }
+
+pub returns : goal.returns
+unfolding is_own
+returns c =
+    let own : c.same_station.result ≡ is_own c.args.table c.args.destination = rw (c.same_station.ensures, c.station_of.ensures, c.own_station.ensures) in
+    let w = tested-told c.args.table c.args.destination c.args.arrival (c.out_choice.ensures ∙ sym (tested-by _ _ _ c.if-table-gt-MOST_ENTRIES.false (told-false own c.if-same_station.false))) in
+    record { value = w.0; refusal = w.1.0; local = w.1.1.0; port = w.1.1.1 }

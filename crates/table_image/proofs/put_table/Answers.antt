@@ -1,0 +1,15 @@
+-- `table_image::put_table` meets its contract: the four bytes before the entries, and the entries.
+use mathlib.Core.Path.{ap, ◌∙◌}
+use mathlib.Core.List.{List}
+use Prim.Native.Nat.{ℕ}
+use lib.Seq.{sets}
+use Rattle.lists.specs.Places.{joined}
+use Rattle.table.specs.Table.{most_entries, entry_at}
+use Rattle.table_image.specs.Table.{entries_start, entry_bytes}
+use Rattle.table_image.proofs.Laws.{table-stored}
+use Rattle.table_image.proofs.put_table.Goals as goal
+
+pub returns : goal.returns
+returns c =
+    let a = c.args in
+    c.put_entries.ensures ∙ ap (λ (b : List ℕ). sets b entries_start (joined entry_bytes (entry_at a.t) most_entries)) c.put_all.ensures ∙ table-stored a.t a.image.now
