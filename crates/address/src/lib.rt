@@ -13,24 +13,24 @@ pub const LARGEST_PORT: u8 = 63;
 
 pub const LARGEST_SEQ: u16 = 32767;
 
-#[derive(Clone, Copy)]
+#[derive(Clone, Copy, Debug, Default, PartialEq, Eq)]
 pub struct Node(pub u16);
 
-#[derive(Clone, Copy)]
+#[derive(Clone, Copy, Debug, Default, PartialEq, Eq)]
 pub struct Port(pub u8);
 
-#[derive(Clone, Copy)]
+#[derive(Clone, Copy, Debug, Default, PartialEq, Eq)]
 pub struct Seq(pub u16);
 
 // A node of the network, with its brigade or agency.
-#[derive(Clone, Copy)]
+#[derive(Clone, Copy, Debug, Default, PartialEq, Eq)]
 pub struct Station {
     pub brigade: u8,
     pub node: Node,
 }
 
 // A port of a station. Port 0 is the router. In this order the three fields leave no byte between them unused, so that rows of addresses are filled and copied at once.
-#[derive(Clone, Copy)]
+#[derive(Clone, Copy, Debug, Default, PartialEq, Eq)]
 pub struct Address {
     pub brigade: u8,
     pub port: Port,
@@ -41,10 +41,9 @@ pub struct Address {
 pub fn station_of(a: Address) -> Station
     ensures { result ≡ station_of a }
 {
-    let n = a.node;
     Station {
         brigade: a.brigade,
-        node: n,
+        node: a.node,
     }
 }
 
@@ -66,12 +65,12 @@ pub fn in_range(a: Address) -> bool
 pub fn same_station(s: Station, t: Station) -> bool
     ensures { result ≡ same_station s t }
 {
-    (s.brigade == t.brigade) & (s.node.0 == t.node.0)
+    s == t
 }
 
 // Whether two addresses are one.
 pub fn same_address(a: Address, b: Address) -> bool
     ensures { result ≡ same_address a b }
 {
-    same_station(station_of(a), station_of(b)) & (a.port.0 == b.port.0)
+    a == b
 }

@@ -8,16 +8,12 @@ use address::{Address, Node, Port};
 pub fn packed_bytes(a: Address) -> [u8; 3]
     ensures { result ≡ packed_bytes a }
 {
-    let b = a.brigade;
     let n = a.node.0;
-    let p = a.port.0;
-    [b, (n / 4 % 256) as u8, (n % 4 * 64) as u8 + p % 64]
-}
-
-fn join(high: u8, low: u8) -> u16
-    ensures { result ≡ high * 4 + low / 64 }
-{
-    high as u16 * 4 + low as u16 / 64
+    [
+        a.brigade,
+        (n / 4 % 256) as u8,
+        (n % 4 * 64) as u8 + a.port.0 % 64,
+    ]
 }
 
 // The address whose three bytes begin at a place of s; a byte past the end counts as 0.
@@ -25,17 +21,13 @@ pub fn packed_in(s: &[u8], at: usize) -> Address
     ensures { result ≡ packed_in s.now at }
 {
     if s.len() <= at {
-        return Address {
-            brigade: 0,
-            node: Node(0),
-            port: Port(0),
-        };
+        return Address::default();
     }
     let high = buffer::byte_at(s, at + 1);
     let low = buffer::byte_at(s, at + 2);
     Address {
         brigade: s[at],
-        node: Node(join(high, low)),
+        node: Node(u16::from(high) * 4 + u16::from(low / 64)),
         port: Port(low % 64),
     }
 }
@@ -44,8 +36,5 @@ pub fn packed_in(s: &[u8], at: usize) -> Address
 pub fn address_key(a: Address) -> u32
     ensures { result ≡ address_key a }
 {
-    let b = a.brigade;
-    let n = a.node.0;
-    let p = a.port.0;
-    b as u32 * 65536 + n as u32 * 64 + p as u32
+    u32::from(a.brigade) * 65536 + u32::from(a.node.0) * 64 + u32::from(a.port.0)
 }

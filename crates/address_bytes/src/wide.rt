@@ -8,8 +8,8 @@ use address::{Address, Node, Port, Station};
 pub fn address_bytes(a: Address) -> [u8; 4]
     ensures { result ≡ address_bytes a }
 {
-    let n = a.node.0;
-    [a.brigade, (n / 256) as u8, (n % 256) as u8, a.port.0]
+    let [high, low] = a.node.0.to_be_bytes();
+    [a.brigade, high, low, a.port.0]
 }
 
 // The address whose four bytes begin at a place.
@@ -17,18 +17,12 @@ pub fn address_in(b: &[u8], at: usize) -> Address
     ensures { result ≡ address_in b.now at }
 {
     if b.len() <= at {
-        return Address {
-            brigade: 0,
-            node: Node(0),
-            port: Port(0),
-        };
+        return Address::default();
     }
-    let n = buffer::word_at(b, at + 1);
-    let p = buffer::byte_at(b, at + 3);
     Address {
         brigade: b[at],
-        node: Node(n),
-        port: Port(p),
+        node: Node(buffer::word_at(b, at + 1)),
+        port: Port(buffer::byte_at(b, at + 3)),
     }
 }
 
@@ -36,8 +30,8 @@ pub fn address_in(b: &[u8], at: usize) -> Address
 pub fn station_bytes(s: Station) -> [u8; 3]
     ensures { result ≡ station_bytes s }
 {
-    let n = s.node.0;
-    [s.brigade, (n / 256) as u8, (n % 256) as u8]
+    let [high, low] = s.node.0.to_be_bytes();
+    [s.brigade, high, low]
 }
 
 // The station whose three bytes begin at a place.
@@ -45,10 +39,7 @@ pub fn station_in(b: &[u8], at: usize) -> Station
     ensures { result ≡ station_in b.now at }
 {
     if b.len() <= at {
-        return Station {
-            brigade: 0,
-            node: Node(0),
-        };
+        return Station::default();
     }
     let node = buffer::word_at(b, at + 1);
     Station {

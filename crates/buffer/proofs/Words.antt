@@ -1,10 +1,10 @@
 -- A number and its two bytes undo each other, and so do two bytes and their number.
 use Prim.Native.Nat.{ℕ, ◌+◌, ◌*◌, ◌/◌, ◌%◌, ◌<◌, ◌≤◌}
 use mathlib.Core.Path.{◌≡◌}
-use mathlib.Core.List.{List}
+use mathlib.Core.List.{List, [], ◌∷◌}
 use native.Mathlib.Omega.{arith}
 use lib.ListN.{get_or}
-use Rattle.buffer.specs.Bytes.{Bytes, word_at}
+use Rattle.buffer.specs.Bytes.{Bytes, word_at, word_bytes}
 
 pub word_back : (x : ℕ) → x / 256 * 256 + x % 256 ≡ x
 word_back x = omega arith
@@ -28,3 +28,7 @@ module _ (b : List ℕ) (bytes : Bytes b) (at : ℕ) where
       let p = bytes at in
       let q = bytes (at + 1) in
       omega arith
+
+-- what `to_be_bytes` gives
+pub two-bytes : (w : ℕ) {b : List ℕ} → w < 65536 → b ≡ w / 256 % 256 ∷ w % 256 ∷ [] → b ≡ word_bytes w
+two-bytes w h e = let high : w / 256 % 256 ≡ w / 256 = omega arith in rw high at e

@@ -1,7 +1,7 @@
 // Bytes of a slice, read and stored at any place: a place past the end reads as 0, and nothing is stored there. And what a writer of bytes answers.
 #![tactic(auto)]
 
-ghost use Rattle.std.specs.Prelude.{◌≡◌, ◌+◌, ◌*◌, ◌≤◌, length, get_or, replicate};
+ghost use Rattle.std.specs.Prelude.{◌≡◌, get_or, replicate};
 ghost use Rattle.std.proofs.lemmas.List.Edits.{sets};
 ghost use Rattle.buffer.specs.Bytes.{word_at};
 
@@ -16,13 +16,7 @@ pub enum Written {
 pub fn byte_at(s: &[u8], at: usize) -> u8
     ensures { result ≡ get_or s.now at 0 }
 {
-    if at < s.len() { s[at] } else { 0 }
-}
-
-fn join(high: u8, low: u8) -> u16
-    ensures { result ≡ high * 256 + low }
-{
-    high as u16 * 256 + low as u16
+    s.get(at).copied().unwrap_or(0)
 }
 
 // The two-byte number that begins at a place, the high byte first.
@@ -30,21 +24,9 @@ pub fn word_at(s: &[u8], at: usize) -> u16
     ensures { result ≡ word_at s.now at }
 {
     if at < s.len() {
-        join(s[at], byte_at(s, at + 1))
+        u16::from_be_bytes([s[at], byte_at(s, at + 1)])
     } else {
         0
-    }
-}
-
-// Stores the bytes of src from a place on, where all of them fit.
-fn store_all(out: &mut [u8], at: usize, src: &[u8])
-    requires { at + length src.now ≤ length out.old }
-    ensures { out.new ≡ sets out.old at src.now }
-{
-    let mut i = 0;
-    while i < src.len() {
-        out[at + i] = src[i];
-        i += 1;
     }
 }
 
@@ -57,22 +39,10 @@ pub fn put_all(out: &mut [u8], at: usize, src: &[u8])
     }
     let room = out.len() - at;
     if room < src.len() {
-        store_all(out, at, &src[..room]);
+        out[at..].copy_from_slice(&src[..room]);
         return;
     }
-    store_all(out, at, src);
-}
-
-// Stores n zeros from a place on, where all of them fit.
-fn store_zeros(out: &mut [u8], at: usize, n: usize)
-    requires { at + n ≤ length out.old }
-    ensures { out.new ≡ sets out.old at (replicate n 0) }
-{
-    let mut i = 0;
-    while i < n {
-        out[at + i] = 0;
-        i += 1;
-    }
+    out[at..at + src.len()].copy_from_slice(src);
 }
 
 // Stores n zeros from a place on; those past the end of out are left out.
@@ -84,8 +54,8 @@ pub fn put_zeros(out: &mut [u8], at: usize, n: usize)
     }
     let room = out.len() - at;
     if room < n {
-        store_zeros(out, at, room);
+        out[at..].fill(0);
         return;
     }
-    store_zeros(out, at, n);
+    out[at..at + n].fill(0);
 }

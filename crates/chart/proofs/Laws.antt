@@ -2,10 +2,10 @@
 use Prim.Native.Nat.{ℕ, ◌<◌, ◌≤◌}
 use mathlib.Core.Path.{◌≡◌}
 use mathlib.Core.Bool.{Bool, true, false, not, ◌&&◌, ◌||◌}
-use lib.ListN.{length, get_or}
+use lib.ListN.{length, get_or, take}
 use lib.Dec.{ltb, leb}
 use borrow.Author.Tests.{ltb-false, leb-false, not-false}
-use Rattle.lists.proofs.Places.{element-own}
+use Rattle.lists.proofs.Places.{element-own, element-taken}
 use Rattle.lists.proofs.Refusals.{pass}
 use Rattle.address.specs.declared.Station.{Station}
 use Rattle.address.specs.Address.{station_of, station_in_range, same_station}
@@ -25,6 +25,15 @@ node-read ns d i h = element-own no_node d ns.items i h
 pub link-read : (ls : Links) (d : Link) (i : ℕ) → i < length ls.items → get_or ls.items i d ≡ link_at ls i
 unfolding link_at
 link-read ls d i h = element-own no_link d ls.items i h
+
+-- the same of a loop over the first n of them
+pub node-taken : (ns : Nodes) (d : ChartNode) (n i : ℕ) → i < length (take n ns.items) → get_or (take n ns.items) i d ≡ node_at ns i
+unfolding node_at
+node-taken ns d n i h = element-taken no_node d ns.items n i h
+
+pub link-taken : (ls : Links) (d : Link) (n i : ℕ) → i < length (take n ls.items) → get_or (take n ls.items) i d ≡ link_at ls i
+unfolding link_at
+link-taken ls d n i h = element-taken no_link d ls.items n i h
 
 -- ---- what 0 says
 

@@ -74,7 +74,7 @@ pub fn no_node() -> ChartNode
         node: Node(0),
     };
     ChartNode {
-        station: station,
+        station,
         length: 0,
         label: [0u8; 24],
     }
@@ -105,20 +105,18 @@ pub fn no_chart() -> Chart
         brigade: 0,
         node: Node(0),
     };
-    let node = no_node();
-    let link = no_link();
     let nodes = Nodes {
         count: 0,
-        items: [node; 16],
+        items: [no_node(); 16],
     };
     let links = Links {
         count: 0,
         form: PLAIN,
-        items: [link; 48],
+        items: [no_link(); 48],
     };
     Chart {
-        nodes: nodes,
-        links: links,
+        nodes,
+        links,
         from: station,
         to: station,
     }

@@ -139,14 +139,18 @@ module _ (form : ℕ) (bytes out : List ℕ) {r : ChartRead} (g : r ≡ read_cha
     none : (read_chart_of bytes).refusal ≡ 0
     none = sym (ap (λ (x : ChartRead). x.refusal) g) ∙ z
 
-    pub move-one-way : (eqb form 2 && one_way r.chart.links) ≡ true → Answer form bytes out (record { refusal = 32; place = r.place; written = 0 }) out
-    move-one-way t = refused_as 32 (unfold move_refusal in rw (none, ← g, t)) (λ e. absurd (omega arith))
+    -- b is what the code finds of the links
+    asked : {b k : Bool} → b ≡ one_way r.chart.links → (eqb form 2 && b) ≡ k → (eqb form 2 && one_way r.chart.links) ≡ k
+    asked o t = ap (λ (x : Bool). eqb form 2 && x) (sym o) ∙ t
 
-    module _ (known : is_form form ≡ true) (t : (eqb form 2 && one_way r.chart.links) ≡ false) where
+    pub move-one-way : {b : Bool} → b ≡ one_way r.chart.links → (eqb form 2 && b) ≡ true → Answer form bytes out (record { refusal = 32; place = r.place; written = 0 }) out
+    move-one-way o t = refused_as 32 (unfold move_refusal in rw (none, ← g, asked o t)) (λ e. absurd (omega arith))
+
+    module _ (known : is_form form ≡ true) {b : Bool} (o : b ≡ one_way r.chart.links) (t : (eqb form 2 && b) ≡ false) where
       accepted : chart_refusal (in_form form r.chart) ≡ 0
       accepted =
           accepted-as form r.chart (ap (λ (x : ChartRead). chart_refusal x.chart) g ∙ (was_read bytes none).accepted) known
-          (not-both (eqb form 2) (one_way r.chart.links) t)
+          (not-both (eqb form 2) (one_way r.chart.links) (asked o t))
 
       module _ {c : Chart} (e : c ≡ in_form form r.chart) where
         bytes_same : chart_bytes c ≡ moved_bytes form bytes
@@ -155,19 +159,19 @@ module _ (form : ℕ) (bytes out : List ℕ) {r : ChartRead} (g : r ≡ read_cha
 
         refusal-same : chart_write_refusal c (length out) ≡ move_refusal form bytes (length out)
         unfolding chart_write_refusal move_refusal
-        refusal-same = rw (none, ← g, t, ← bytes_same, ap chart_refusal e ∙ accepted)
+        refusal-same = rw (none, ← g, asked o t, ← bytes_same, ap chart_refusal e ∙ accepted)
 
-        -- the writer's own answer
-        pub move-written : (w : Written) {o : List ℕ} → written_refusal w ≡ chart_write_refusal c (length out)
-            → written_count w ≡ unless_refused (chart_write_refusal c (length out)) (length (chart_bytes c)) 0 → o ≡ chart_after c out
-            → Answer form bytes out (record { refusal = written_refusal w; place = r.place; written = written_count w }) o
+        -- the writer's own answer, which is v
+        pub move-written : {w v : Written} {after : List ℕ} → w ≡ v → written_refusal w ≡ chart_write_refusal c (length out)
+            → written_count w ≡ unless_refused (chart_write_refusal c (length out)) (length (chart_bytes c)) 0 → after ≡ chart_after c out
+            → Answer form bytes out (record { refusal = written_refusal v; place = r.place; written = written_count v }) after
         unfolding chart_after move_of moved_after
-        move-written w f n b =
+        move-written is f n b =
             record {
               answer = λ i. record {
-                refusal = (f ∙ refusal-same) i;
+                refusal = (ap written_refusal (sym is) ∙ f ∙ refusal-same) i;
                 place = (g i).place;
-                written = (n ∙ (λ j. unless_refused (refusal-same j) (length (bytes_same j)) 0)) i;
+                written = (ap written_count (sym is) ∙ n ∙ (λ j. unless_refused (refusal-same j) (length (bytes_same j)) 0)) i;
               };
               buffer = b ∙ (λ j. lent_after (refusal-same j) (bytes_same j) out);
             }

@@ -21,16 +21,9 @@ pub struct Moved {
 fn in_form(form: u8, c: Chart) -> Chart
     ensures { result ≡ in_form form c }
 {
-    let mut links = c.links;
-    links.form = form;
-    let nodes = c.nodes;
-    let from = c.from;
-    let to = c.to;
     Chart {
-        nodes,
-        links,
-        from,
-        to,
+        links: Links { form, ..c.links },
+        ..c
     }
 }
 
@@ -39,14 +32,10 @@ fn one_way(links: Links) -> bool
     requires { links.count ≤ most_links }
     ensures { result ≡ one_way links }
 {
-    let n = links.count as usize;
-    let mut i: usize = 0;
-    while i < n {
-        let l = links.items[i];
+    for l in &links.items[..links.count as usize] {
         if l.direction != BOTH_WAYS {
             return true;
         }
-        i += 1;
     }
     false
 }
@@ -67,17 +56,14 @@ fn move_to(form: u8, bytes: &[u8], out: &mut [u8]) -> Moved
             written: 0,
         };
     }
-    let c = r.chart;
-    let links = c.links;
-    if (form == PLAIN) & one_way(links) {
+    if (form == PLAIN) & one_way(r.chart.links) {
         return Moved {
             refusal: 32,
             place,
             written: 0,
         };
     }
-    let moved = in_form(form, c);
-    match chart_write::write_chart(moved, out) {
+    match chart_write::write_chart(in_form(form, r.chart), out) {
         Written::Refused(refusal) => Moved {
             refusal,
             place,

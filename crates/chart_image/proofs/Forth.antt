@@ -19,7 +19,8 @@ use Rattle.buffer.proofs.Words.{high-back, low-back}
 use Rattle.chart_write.specs.Writing.{on_byte, direction_bytes, link_body}
 use Rattle.chart_image.specs.Image.{node_image, chart_image, node_held, link_held, chart_in}
 use Rattle.chart_image.specs.Promises.{used_image, OnBytes}
-use Rattle.chart_image.proofs.Rows.{part, joined-counted, joined-part}
+use Rattle.chart_read.proofs.Laws.{part}
+use Rattle.chart_image.proofs.Rows.{joined-counted, joined-part}
 
 on-forth : (x : ℕ) → x ≤ 1 → on_byte (eqb x 1) ≡ x
 on-forth zero h = refl

@@ -1,5 +1,5 @@
 // The chart in an image.
-ghost use Rattle.std.specs.Prelude.{◌≡◌, ◌≤◌, min};
+ghost use Rattle.std.specs.Prelude.{◌≡◌, ◌≤◌};
 ghost use Rattle.lists.specs.Places.{row};
 ghost use Rattle.chart.specs.Values.{longest_label, most_links, most_nodes, no_node, no_link};
 ghost use Rattle.chart_read.specs.Fields.{bytes_from};
@@ -14,10 +14,8 @@ fn label_in(b: &[u8], at: usize) -> [u8; 24]
     ensures { result ≡ row longest_label 0 (bytes_from b.now at) longest_label }
 {
     let mut label = [0u8; 24];
-    let mut i: usize = 0;
-    while i < 24 {
-        label[i] = buffer::byte_at(b, at + i);
-        i += 1;
+    for (i, x) in label.iter_mut().enumerate() {
+        *x = buffer::byte_at(b, at + i);
     }
     label
 }
@@ -28,13 +26,10 @@ fn node_held(b: &[u8], i: usize) -> ChartNode
     ensures { result ≡ node_held b.now i }
 {
     let at = NODES_START + NODE_SIZE * i;
-    let station = address_bytes::station_in(b, at);
-    let length = buffer::byte_at(b, at + 3);
-    let label = label_in(b, at + 4);
     ChartNode {
-        station,
-        length,
-        label,
+        station: address_bytes::station_in(b, at),
+        length: buffer::byte_at(b, at + 3),
+        label: label_in(b, at + 4),
     }
 }
 
@@ -43,13 +38,9 @@ fn nodes_held(b: &[u8], n: usize) -> [ChartNode; 16]
     requires { n ≤ most_nodes }
     ensures { result ≡ row most_nodes no_node (node_held b.now) n }
 {
-    let none = chart::no_node();
-    let mut items = [none; 16];
-    let mut i: usize = 0;
-    while i < n {
-        let e = node_held(b, i);
-        items[i] = e;
-        i += 1;
+    let mut items = [chart::no_node(); 16];
+    for i in 0..n {
+        items[i] = node_held(b, i);
     }
     items
 }
@@ -64,14 +55,11 @@ fn link_held(b: &[u8], i: usize) -> Link
     if 1 < on {
         return chart::no_link();
     }
-    let from = address_bytes::address_in(b, at);
-    let to = address_bytes::address_in(b, at + 4);
-    let direction = buffer::byte_at(b, at + 9);
     Link {
-        a: from,
-        b: to,
+        a: address_bytes::address_in(b, at),
+        b: address_bytes::address_in(b, at + 4),
         on: on == 1,
-        direction,
+        direction: buffer::byte_at(b, at + 9),
     }
 }
 
@@ -80,22 +68,11 @@ fn links_held(b: &[u8], n: usize) -> [Link; 48]
     requires { n ≤ most_links }
     ensures { result ≡ row most_links no_link (link_held b.now) n }
 {
-    let none = chart::no_link();
-    let mut items = [none; 48];
-    let mut i: usize = 0;
-    while i < n {
-        let e = link_held(b, i);
-        items[i] = e;
-        i += 1;
+    let mut items = [chart::no_link(); 48];
+    for i in 0..n {
+        items[i] = link_held(b, i);
     }
     items
-}
-
-// The smaller of two counts.
-fn least(n: u8, most: u8) -> u8
-    ensures { result ≡ min n most }
-{
-    if n < most { n } else { most }
 }
 
 // The chart in an image.
@@ -103,23 +80,18 @@ pub fn chart_in(b: &[u8]) -> Chart
     ensures { result ≡ chart_in b.now }
 {
     let n = buffer::byte_at(b, 0);
-    let nodes = nodes_held(b, least(n, MOST_NODES) as usize);
     let m = buffer::byte_at(b, 1);
-    let links = links_held(b, least(m, MOST_LINKS) as usize);
-    let form = buffer::byte_at(b, 2);
-    let from = address_bytes::station_in(b, 3);
-    let to = address_bytes::station_in(b, 6);
     Chart {
         nodes: Nodes {
             count: n,
-            items: nodes,
+            items: nodes_held(b, n.min(MOST_NODES) as usize),
         },
         links: Links {
             count: m,
-            form,
-            items: links,
+            form: buffer::byte_at(b, 2),
+            items: links_held(b, m.min(MOST_LINKS) as usize),
         },
-        from,
-        to,
+        from: address_bytes::station_in(b, 3),
+        to: address_bytes::station_in(b, 6),
     }
 }

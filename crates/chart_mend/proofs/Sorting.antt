@@ -3,8 +3,10 @@ use Prim.Native.Nat.{ℕ, ◌+◌, ◌-◌, ◌<◌, ◌≤◌}
 use mathlib.Core.Path.{◌≡◌, refl, sym, ap, subst, ◌∙◌}
 use mathlib.Core.List.{List, [], ◌∷◌, ◌++◌, append_assoc, append-nil}
 use native.Mathlib.Omega.{arith}
-use lib.ListN.{length, length-append}
+use lib.ListN.{length, get_or, length-append}
 use lib.Seq.{sets}
+use mir.Syntax.{w8}
+use mir.Val.{Fits}
 use Rattle.buffer.specs.Bytes.{Bytes, word_bytes}
 use Rattle.lists.proofs.Stores.{sets-append}
 use Rattle.chart_read.specs.declared.Counts.{Counts}
@@ -108,6 +110,11 @@ pub record Field (input out₀ list₀ : List ℕ) (t : Turn) (k next : ℕ) : T
   pub keys : Keys
   pub takes : TakesField t.keys input t.at k keys
   pub next_is : next ≡ field_end input t.at
+
+-- from what the loop knows once it has taken a field
+abbrev pub field-taken : {input out₀ list₀ : List ℕ} {t : Turn} {k next : ℕ} {keys : Keys} → Sorting input out₀ list₀ t → ((i : ℕ) → Fits w8 (get_or input i 0)) → t.at < length input
+    → TakesField t.keys input t.at k keys → next ≡ field_end input t.at → Field input out₀ list₀ t k next
+field-taken {keys} s b l h e = record { sorting = s; all-bytes = λ i. omega (arith, b i); begins = l; keys = keys; takes = h; next_is = e }
 
 module _ {input out₀ list₀ : List ℕ} {t : Turn} {k next : ℕ} (f : Field input out₀ list₀ t k next) where
   abbrev p : Sorting input out₀ list₀ t

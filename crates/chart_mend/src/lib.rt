@@ -42,7 +42,8 @@ fn entry(at: usize, refusal: u8) -> [u8; 3]
     requires { at < 65536 }
     ensures { result ≡ word_bytes at ++ (refusal ∷ []) }
 {
-    [(at / 256) as u8, (at % 256) as u8, refusal]
+    let [high, low] = (at as u16).to_be_bytes();
+    [high, low, refusal]
 }
 
 // One pass over the fields: those that are kept into `out`, an entry for each other into `list`, each from the front. What does not fit is counted, not stored.
@@ -70,8 +71,7 @@ fn sort(input: &[u8], out: &mut [u8], list: &mut [u8]) -> Sorted
             buffer::put_all(out, kept, &input[at..next]);
             kept += next - at;
         } else {
-            let e = entry(at, t.refusal);
-            buffer::put_all(list, listed, &e);
+            buffer::put_all(list, listed, &entry(at, t.refusal));
             listed += ENTRY_SIZE;
         }
         at = next;

@@ -7,7 +7,7 @@ use mathlib.Core.List.{List, [], ◌∷◌}
 use native.Mathlib.Omega.{arith}
 use borrow.Author.Tests.{lt-ltb, le-ltb, ltb-true, lt-leb, ne_eqb, eqb-true}
 use lib.Dec.{eqb, ltb, leb}
-use lib.ListN.{length, get_or, set, replicate}
+use lib.ListN.{length, get_or, set, take, replicate, length-take}
 use Rattle.lists.specs.Places.{row}
 use Rattle.lists.proofs.Places.{element-own, row-none, row_next, row_at, length-row}
 use Rattle.address.specs.declared.Station.{Station}
@@ -17,7 +17,7 @@ use Rattle.chart.specs.declared.Nodes.{Nodes}
 use Rattle.chart.specs.declared.Links.{Links}
 use Rattle.chart.specs.declared.Chart.{Chart}
 use Rattle.chart.specs.Values.{node_at, link_at, has_node}
-use Rattle.chart.proofs.Laws.{link-read}
+use Rattle.chart.proofs.Laws.{link-taken}
 use Rattle.route.specs.Route.{Net, Sound}
 use Rattle.route.specs.All.{all_routes}
 use Rattle.route.proofs.SameNet.{Alike, routes-agree}
@@ -55,11 +55,11 @@ module _ (ls : Links) where
   pub ways-none : replicate 48 0 ≡ row 48 0 (passage_at ls) 0
   ways-none = sym (row-none 48 0 (passage_at ls))
 
-  pub ways_next : (ways : List ℕ) (d : Link) (i w : ℕ) → i < 48 → i < length ls.items → ways ≡ row 48 0 (passage_at ls) i → w ≡ passage_of (get_or ls.items i d)
-      → set ways i w ≡ row 48 0 (passage_at ls) (i + 1)
+  pub ways_next : (ways : List ℕ) (d : Link) (i w : ℕ) → ls.count ≤ 48 → i < length (take ls.count ls.items) → ways ≡ row 48 0 (passage_at ls) i
+      → w ≡ passage_of (get_or (take ls.count ls.items) i d) → set ways i w ≡ row 48 0 (passage_at ls) (i + 1)
   unfolding passage_at
   ways_next ways d i w h k e q =
-      ap₂ (λ (l : List ℕ) (x : ℕ). set l i x) e (q ∙ ap passage_of (link-read ls d i k)) ∙ row_next 48 0 (passage_at ls) i h
+      ap₂ (λ (l : List ℕ) (x : ℕ). set l i x) e (q ∙ ap passage_of (link-taken ls d ls.count i k)) ∙ row_next 48 0 (passage_at ls) i (omega (arith, length-take ls.count ls.items))
 
   pub ways-all : (ways : List ℕ) (i : ℕ) → ls.count ≤ 48 → i ≡ ls.count → ways ≡ row 48 0 (passage_at ls) i → ways ≡ passages_for ls
   unfolding passages_for
@@ -76,11 +76,12 @@ module _ (ls : Links) where
     pub ends-none : replicate 48 two ≡ row 48 two (end_places_at ns ls) 0
     ends-none = sym (row-none 48 two (end_places_at ns ls))
 
-    pub ends_next : (ends : List (List ℕ)) (d : Link) (i : ℕ) (es : List ℕ) → i < 48 → i < length ls.items → ends ≡ row 48 two (end_places_at ns ls) i
-        → es ≡ end_places ns (get_or ls.items i d) → set ends i es ≡ row 48 two (end_places_at ns ls) (i + 1)
+    pub ends_next : (ends : List (List ℕ)) (d : Link) (i : ℕ) (es : List ℕ) → ls.count ≤ 48 → i < length (take ls.count ls.items) → ends ≡ row 48 two (end_places_at ns ls) i
+        → es ≡ end_places ns (get_or (take ls.count ls.items) i d) → set ends i es ≡ row 48 two (end_places_at ns ls) (i + 1)
     unfolding end_places_at
     ends_next ends d i es h k e q =
-        ap₂ (λ (l : List (List ℕ)) (x : List ℕ). set l i x) e (q ∙ ap (end_places ns) (link-read ls d i k)) ∙ row_next 48 two (end_places_at ns ls) i h
+        ap₂ (λ (l : List (List ℕ)) (x : List ℕ). set l i x) e (q ∙ ap (end_places ns) (link-taken ls d ls.count i k))
+        ∙ row_next 48 two (end_places_at ns ls) i (omega (arith, length-take ls.count ls.items))
 
     pub ends-all : (ends : List (List ℕ)) (i : ℕ) → ls.count ≤ 48 → i ≡ ls.count → ends ≡ row 48 two (end_places_at ns ls) i → ends ≡ ends_for ns ls
     unfolding ends_for

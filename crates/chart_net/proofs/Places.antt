@@ -52,11 +52,9 @@ module _ (ns : Nodes) (s : Station) where
   unfolding station_place
   place_here i h n e = sym (first-stop (stands_at ns s) ns.count i (record { below = h; passes = e; none_before = n }))
 
-  pub place_none : (i : ℕ) → i ≡ ns.count → any_below (stands_at ns s) i ≡ false → i ≡ station_place ns s
+  pub place_none : any_below (stands_at ns s) ns.count ≡ false → ns.count ≡ station_place ns s
   unfolding station_place
-  place_none i e n =
-      let m : any_below (stands_at ns s) ns.count ≡ false = ap (any_below (stands_at ns s)) (sym e) ∙ n in
-      e ∙ sym (first-none (stands_at ns s) ns.count m)
+  place_none n = sym (first-none (stands_at ns s) ns.count n)
 
   -- the same of the keys
   module _ (keys : List ℕ) (f : ns.count ≤ 16) (h : KeysOf ns keys) (k : ℕ) (e : StationKeyed s k) where
@@ -69,8 +67,8 @@ module _ (ns : Nodes) (s : Station) where
     pub key_here : (i : ℕ) → i < ns.count → any_below (key_is keys k) i ≡ false → key_is keys k i ≡ true → i ≡ station_place ns s
     key_here i l n q = place_here i l (none-key i (omega arith) n) (sym (stands-key i l) ∙ q)
 
-    pub key-none : (i : ℕ) → i ≡ ns.count → any_below (key_is keys k) i ≡ false → i ≡ station_place ns s
-    key-none i q n = place_none i q (none-key i (omega arith) n)
+    pub key-none : any_below (key_is keys k) ns.count ≡ false → ns.count ≡ station_place ns s
+    key-none n = place_none (none-key ns.count (omega arith) n)
 
   -- a station that is written has a place among the nodes
   pub place-written : has_node ns s ≡ true → station_place ns s < ns.count

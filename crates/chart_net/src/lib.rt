@@ -24,14 +24,12 @@ fn find_node(nodes: Nodes, keys: &[u32; 16], s: Station) -> u8
     ensures { result ≡ station_place nodes s }
 {
     let k = chart_refuse::station_key(s);
-    let mut i: usize = 0;
-    while i < nodes.count as usize {
-        if keys[i] == k {
-            return i as u8;
+    for i in 0..nodes.count {
+        if keys[i as usize] == k {
+            return i;
         }
-        i += 1;
     }
-    i as u8
+    nodes.count
 }
 
 // The same of any nodes; 16 where they are too many.
@@ -58,10 +56,8 @@ fn link_ends(nodes: Nodes, keys: &[u32; 16], l: Link) -> [u8; 2]
     requires { KeysOf nodes keys.now }
     ensures { result ≡ end_places nodes l }
 {
-    let a = l.a;
-    let b = l.b;
-    let p = place_by(nodes, keys, station_of(a));
-    let q = place_by(nodes, keys, station_of(b));
+    let p = place_by(nodes, keys, station_of(l.a));
+    let q = place_by(nodes, keys, station_of(l.b));
     [p, q]
 }
 
@@ -74,13 +70,8 @@ fn ends_for(nodes: Nodes, keys: &[u32; 16], links: Links) -> [[u8; 2]; 48]
     if MOST_LINKS < links.count {
         return ends;
     }
-    let n = links.count as usize;
-    let mut i: usize = 0;
-    while i < n {
-        let l = links.items[i];
-        let e = link_ends(nodes, keys, l);
-        ends[i] = e;
-        i += 1;
+    for (i, l) in links.items[..links.count as usize].iter().enumerate() {
+        ends[i] = link_ends(nodes, keys, *l);
     }
     ends
 }
@@ -89,10 +80,8 @@ fn ends_for(nodes: Nodes, keys: &[u32; 16], links: Links) -> [[u8; 2]; 48]
 pub fn ends_of(c: Chart) -> [[u8; 2]; 48]
     ensures { result ≡ ends_for c.nodes c.links }
 {
-    let nodes = c.nodes;
-    let links = c.links;
-    let keys = chart_refuse::station_keys(nodes);
-    ends_for(nodes, &keys, links)
+    let keys = chart_refuse::station_keys(c.nodes);
+    ends_for(c.nodes, &keys, c.links)
 }
 
 // The way that a link is passed: 0 not at all, 1 both ways, 2 out, 3 back.
@@ -114,13 +103,8 @@ pub fn passages_for(links: Links) -> [u8; 48]
     if MOST_LINKS < links.count {
         return ways;
     }
-    let n = links.count as usize;
-    let mut i: usize = 0;
-    while i < n {
-        let l = links.items[i];
-        let w = passage_of(l);
-        ways[i] = w;
-        i += 1;
+    for (i, l) in links.items[..links.count as usize].iter().enumerate() {
+        ways[i] = passage_of(*l);
     }
     ways
 }

@@ -1,10 +1,12 @@
 -- What the reader's loop keeps: the walk from here is the whole reading, and the keys are those of the nodes and links that are held.
 use Prim.Native.Nat.{ℕ, ◌<◌, ◌≤◌}
-use mathlib.Core.Path.{◌≡◌, refl, sym, ap, subst, ◌∙◌}
+use mathlib.Core.Path.{◌≡◌, sym, ap, subst, ◌∙◌}
 use mathlib.Core.List.{List}
 use mathlib.Core.Bool.{true, false}
 use native.Mathlib.Omega.{arith}
-use lib.ListN.{length, set, replicate}
+use lib.ListN.{length, get_or, set, replicate}
+use mir.Syntax.{w8}
+use mir.Val.{Fits}
 use borrow.Author.Tests.{eq-eqb, ne_eqb}
 use Rattle.buffer.specs.Bytes.{Bytes}
 use Rattle.lists.proofs.Refusals.{taken}
@@ -73,6 +75,14 @@ pub record Accepted (bytes : List ℕ) (t : Turn) (b : List ℕ) (next : ℕ) : 
   pub zero : refusal_of bytes t ≡ 0
   pub body : b ≡ body_at bytes t.at
   pub past : next ≡ past_field bytes t.at
+
+-- from what the loop knows at a field, and once it has taken it
+abbrev pub field-here : {bytes : List ℕ} {t : Turn} → Holding bytes t → ((i : ℕ) → Fits w8 (get_or bytes i 0)) → t.at < length bytes → Field bytes t
+field-here h b l = record { holding = h; all-bytes = λ i. omega (arith, b i); begins = l }
+
+abbrev pub field-taken : {bytes : List ℕ} {t : Turn} → Holding bytes t → ((i : ℕ) → Fits w8 (get_or bytes i 0)) → t.at < length bytes
+    → {k : ℕ} → k ≡ refusal_of bytes t → k ≡ 0 → {b : List ℕ} → b ≡ body_at bytes t.at → {next : ℕ} → next ≡ past_field bytes t.at → Accepted bytes t b next
+field-taken h b l e z d p = record { field = field-here h b l; zero = sym e ∙ z; body = d; past = p }
 
 module _ {bytes : List ℕ} {t : Turn} (f : Field bytes t) where
   refusal-same : refusal_of bytes t ≡ field_refusal (refusing (so_far_of t)) bytes t.at

@@ -1,12 +1,12 @@
 -- A field's number by keys is the number that the reader's definitions give.
-use Prim.Native.Nat.{ℕ, ◌+◌, ◌≤◌}
+use Prim.Native.Nat.{ℕ, ◌+◌}
 use mathlib.Core.Path.{◌≡◌, refl, ap}
 use mathlib.Core.List.{List}
 use mathlib.Core.Bool.{not, cond}
 use native.Mathlib.Omega.{arith}
 use lib.ListN.{length, get_or}
 use lib.Dec.{ltb, eqb}
-use Rattle.buffer.specs.Bytes.{Bytes, word_at}
+use Rattle.buffer.specs.Bytes.{Bytes}
 use Rattle.lists.specs.Refusals.{refuse}
 use Rattle.address_bytes.specs.Wide.{station_in, address_in}
 use Rattle.chart_refuse.specs.Private.{end_key, EndKeyed, KeyedNodes, KeyedLinks}

@@ -1,15 +1,19 @@
 -- Laws of the reader's definitions, over plain values: a body by its tag, one field at a place, and what a number of 0 says of them.
-use Prim.Native.Nat.{ℕ, ◌+◌, ◌-◌, ◌<◌, ◌≤◌}
-use mathlib.Core.Path.{◌≡◌, refl, sym, ap, ◌∙◌}
-use mathlib.Core.List.{List}
+use Prim.Native.Nat.{ℕ, ◌+◌, ◌-◌, ◌<◌, ◌≤◌, min}
+use mathlib.Core.Path.{◌≡◌, refl, sym, ap, ap₂, ◌∙◌}
+use mathlib.Core.List.{List, ◌++◌}
 use mathlib.Core.Logic.{◌⊎◌, inl, inr}
 use mathlib.Core.Bool.{Bool, true, false, not, cond}
 use native.Mathlib.Omega.{arith}
-use lib.ListN.{length, get_or, take, drop}
-use lib.Seq.{get_or-take}
+use lib.ListN.{length, get_or, take, drop, replicate, length-drop}
+use lib.Seq.{get_or-take, get_or-drop}
+use Rattle.std.proofs.lemmas.List.{drop-replicate}
 use lib.Dec.{ltb, eqb}
-use borrow.Author.Tests.{lt-ltb, le-ltb, ltb-false, eqb-true, eq-eqb, ne_eqb, not-false}
+use borrow.Author.Tests.{lt-ltb, le-ltb, ltb-true, ltb-false, eqb-true, eq-eqb, ne_eqb, not-false}
 use Rattle.buffer.specs.Bytes.{word_at}
+use Rattle.lists.specs.Places.{element_at, firsts, row}
+use Rattle.lists.proofs.Places.{firsts-agree}
+use Rattle.lists.proofs.Runs.{firsts-take}
 use Rattle.lists.proofs.Bools.{or_right, both_ways, no_true}
 use Rattle.lists.proofs.Refusals.{pass}
 use Rattle.lists.proofs.Chains.{stops, passes}
@@ -17,9 +21,24 @@ use Rattle.address.specs.declared.Station.{Station}
 use Rattle.address_bytes.specs.Wide.{station_in, address_in}
 use Rattle.chart.specs.declared.ChartNode.{ChartNode}
 use Rattle.chart.specs.declared.Link.{Link}
-use Rattle.chart_read.specs.Fields.{is_form, link_length, tag_at, body_at, past_field, cut_short, node_in, link_in}
+use Rattle.chart_read.specs.Fields.{is_form, link_length, tag_at, body_at, past_field, cut_short, bytes_from, node_in, link_in}
 use Rattle.chart_read.specs.Reading.{SoFar, with_node, with_link, with_question, with_body, Refusing, node_body_refusal, link_body_refusal, question_body_refusal, body_refusal, field_refusal}
 use Rattle.chart_read.specs.Private.{field_end}
+
+-- ---- a part of the bytes
+
+-- a part of a list, byte by byte
+pub part : (b : List ℕ) (at n : ℕ) → at + n ≤ length b → firsts (λ k. get_or b (at + k) 0) n ≡ take n (drop at b)
+unfolding element_at
+part b at n h =
+    let e : length (drop at b) ≡ length b - at = length-drop at b in
+    firsts-agree (λ k. get_or b (at + k) 0) (element_at 0 (drop at b)) n (λ k l. sym (get_or-drop at b k 0))
+    ∙ sym (firsts-take 0 (drop at b) n (omega arith))
+
+-- a row that begins with it
+pub label-row : (b : List ℕ) (at n : ℕ) → at + n ≤ length b → take n (drop at b) ++ drop n (replicate 24 0) ≡ row 24 0 (bytes_from b at) n
+unfolding row bytes_from
+label-row b at n h = ap₂ ◌++◌ (sym (part b at n h)) (drop-replicate n 24 0)
 
 -- ---- by the tag
 
@@ -137,9 +156,13 @@ module _ (bytes : List ℕ) (at : ℕ) where
   unfolding field_end
   end-cut h = rw (lt-ltb (length bytes) (past_field bytes at) h)
 
-  pub end_whole : (next : ℕ) → next ≡ past_field bytes at → next ≤ length bytes → next ≡ field_end bytes at
+  pub end-least : min (past_field bytes at) (length bytes) ≡ field_end bytes at
   unfolding field_end
-  end_whole next e h = e ∙ tag-later _ (le-ltb (length bytes) (past_field bytes at) (omega arith)) refl
+  end-least = by (ltb (length bytes) (past_field bytes at)) refl
+    where
+      by : (t : Bool) → ltb (length bytes) (past_field bytes at) ≡ t → min (past_field bytes at) (length bytes) ≡ cond t (length bytes) (past_field bytes at)
+      by true e = omega (arith, ltb-true (length bytes) (past_field bytes at) e)
+      by false e = omega (arith, ltb-false (length bytes) (past_field bytes at) e)
 
 module _ (r : Refusing) (bytes : List ℕ) (at : ℕ) where
   pub field_cut : length bytes < past_field bytes at → 21 ≡ field_refusal r bytes at

@@ -65,10 +65,11 @@ module _ (t : Keys) (bytes : List ℕ) (at : ℕ) where
   field-refused k e = record { refusal = e; keys = sym (refused _ t (suc k) (λ z. absurd (omega arith))) }
 
   -- a whole field is taken as its body is
-  pub field-takes : past_field bytes at ≤ length bytes → (tag : ℕ) → tag_at bytes at ≡ tag → (b : List ℕ) → b ≡ body_at bytes at → (k : ℕ) (u : Keys)
+  pub field-takes : {next : ℕ} → next ≡ past_field bytes at → next ≤ length bytes → {tag : ℕ} → tag_at bytes at ≡ tag → {b : List ℕ} → b ≡ body_at bytes at → {k : ℕ} {u : Keys}
       → Takes t tag b k u → TakesField t bytes at k u
-  field-takes h tag g b e k u p =
+  field-takes q l g e {k} p =
       let d = sym g in
+      let h : past_field bytes at ≤ length bytes = omega arith in
       record {
         refusal = field-whole (refusing_by t) bytes at k h (p.refusal ∙ ap₂ (body_refusal (refusing_by t)) d e);
         keys = p.keys ∙ (λ i. unless_refused k (keys_with t (d i) (e i)) t);

@@ -22,11 +22,7 @@ pub fn field_end(bytes: &[u8], at: usize) -> usize
     if bytes.len() <= at {
         return bytes.len();
     }
-    let next = past_field(bytes, at);
-    if bytes.len() < next {
-        return bytes.len();
-    }
-    next
+    past_field(bytes, at).min(bytes.len())
 }
 
 // The body of the field that begins at a place, which is whole.
@@ -34,9 +30,8 @@ pub fn body_at(bytes: &[u8], at: usize) -> &[u8]
     requires { (at < length bytes.now) × (past_field bytes.now at ≤ length bytes.now) }
     ensures { result.now ≡ body_at bytes.now at }
 {
-    let body = at + 3;
     let next = past_field(bytes, at);
-    &bytes[body..next]
+    &bytes[at + 3..next]
 }
 
 // The label: n bytes after the station, and zeros after them.
@@ -45,11 +40,7 @@ fn label_in(b: &[u8], n: usize) -> [u8; 24]
     ensures { result ≡ row longest_label 0 (bytes_from b.now 3) n }
 {
     let mut label = [0u8; 24];
-    let mut i: usize = 0;
-    while i < n {
-        label[i] = b[3 + i];
-        i += 1;
-    }
+    label[..n].copy_from_slice(&b[3..3 + n]);
     label
 }
 
@@ -58,13 +49,11 @@ pub fn node_in(b: &[u8]) -> ChartNode
     requires { (3 ≤ length b.now) × (length b.now ≤ 27) }
     ensures { result ≡ node_in b.now }
 {
-    let s = address_bytes::station_in(&b[..3], 0);
     let n = b.len() - 3;
-    let label = label_in(b, n);
     ChartNode {
-        station: s,
+        station: address_bytes::station_in(&b[..3], 0),
         length: n as u8,
-        label: label,
+        label: label_in(b, n),
     }
 }
 
@@ -74,14 +63,10 @@ pub fn link_in(b: &[u8]) -> Link
     ensures { result ≡ link_in b.now }
 {
     let ends = &b[..8];
-    let p = address_bytes::address_in(ends, 0);
-    let q = address_bytes::address_in(ends, 4);
-    let on = b[8] == 1;
-    let direction = buffer::byte_at(b, 9);
     Link {
-        a: p,
-        b: q,
-        on: on,
-        direction: direction,
+        a: address_bytes::address_in(ends, 0),
+        b: address_bytes::address_in(ends, 4),
+        on: b[8] == 1,
+        direction: buffer::byte_at(b, 9),
     }
 }

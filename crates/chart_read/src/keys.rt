@@ -26,9 +26,7 @@ fn take_node(keys: &mut [u32; 16], counts: Counts, b: &[u8]) -> Taken
         refusal: 0,
         counts: Counts {
             nodes: n + 1,
-            links: counts.links,
-            form: counts.form,
-            asked: counts.asked,
+            ..counts
         },
     }
 }
@@ -57,10 +55,9 @@ fn take_link(
     Taken {
         refusal: 0,
         counts: Counts {
-            nodes: counts.nodes,
             links: m + 1,
             form,
-            asked: counts.asked,
+            ..counts
         },
     }
 }
@@ -76,10 +73,8 @@ fn take_question(keys: &[u32; 16], counts: Counts, b: &[u8]) -> Taken
     Taken {
         refusal: 0,
         counts: Counts {
-            nodes: counts.nodes,
-            links: counts.links,
-            form: counts.form,
             asked: true,
+            ..counts
         },
     }
 }

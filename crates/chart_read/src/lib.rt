@@ -46,11 +46,10 @@ pub struct Taken {
 fn refused_at(refusal: u8, place: usize) -> ChartRead
     ensures { result ≡ refused_at refusal place }
 {
-    let c = chart::no_chart();
     ChartRead {
-        refusal: refusal,
-        place: place,
-        chart: c,
+        refusal,
+        place,
+        chart: chart::no_chart(),
     }
 }
 

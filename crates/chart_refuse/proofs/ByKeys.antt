@@ -4,7 +4,8 @@ use mathlib.Core.Path.{◌≡◌, refl, sym, ap, ap₂, subst, ◌∙◌}
 use mathlib.Core.List.{List}
 use mathlib.Core.Bool.{Bool, true, false, not, ◌&&◌, ◌||◌}
 use native.Mathlib.Omega.{arith}
-use lib.ListN.{length, get_or, set}
+use lib.ListN.{length, get_or, set, take}
+use Rattle.std.proofs.lemmas.List.{length-take-le, get_or-take}
 use lib.Seq.{get_or-set_same, get_or-set_other, ext_get_or}
 use lib.Dec.{eqb}
 use borrow.Author.Tests.{eqb-true, eqb-false, eq-eqb}
@@ -32,6 +33,11 @@ known_by keys n s e = ap (λ (k : ℕ). any_below (key_is keys k) n) e.key
 pub used-by : (akeys bkeys : List ℕ) (m : ℕ) (a : Address) {k : ℕ} → EndKeyed a k → (any_below (key_is akeys k) m || any_below (key_is bkeys k) m) ≡ used_by akeys bkeys m a
 unfolding used_by
 used-by akeys bkeys m a e = ap (λ (k : ℕ). any_below (key_is akeys k) m || any_below (key_is bkeys k) m) e.key
+
+-- the first n keys are looked at alone
+pub has-first : (keys : List ℕ) (n k : ℕ) → n ≤ length keys → any_below (key_is (take n keys) k) (length (take n keys)) ≡ any_below (key_is keys k) n
+unfolding key_is
+has-first keys n k h = rw (length-take-le n keys h) (any-agree _ _ n (λ i l. ap (λ (x : ℕ). eqb x k) (get_or-take n keys i 0 l)))
 
 -- ---- one key, one station; one key, one end
 

@@ -15,12 +15,9 @@ fn link_keys(links: Links, akeys: &mut [u32; 48], bkeys: &mut [u32; 48])
     ensures { KeyedLinks links akeys.new bkeys.new }
 {
     let n = links.count as usize;
-    let mut i: usize = 0;
-    while i < n {
-        let l = links.items[i];
+    for (i, l) in links.items[..n].iter().enumerate() {
         akeys[i] = end_key(l.a);
         bkeys[i] = end_key(l.b);
-        i += 1;
     }
 }
 
@@ -30,14 +27,11 @@ fn nodes_refusal(nodes: Nodes, keys: &[u32; 16]) -> u8
     ensures { result ≡ first_refusal_below (node_refusal_at nodes) nodes.count }
 {
     let n = nodes.count as usize;
-    let mut i: usize = 0;
-    while i < n {
-        let node = nodes.items[i];
-        let k = node_refusal(false, keys, i, node);
+    for (i, node) in nodes.items[..n].iter().enumerate() {
+        let k = node_refusal(false, keys, i, *node);
         if k != 0 {
             return k;
         }
-        i += 1;
     }
     0
 }
@@ -53,24 +47,13 @@ fn links_refusal(
     requires { (links.count ≤ most_links) × KeyedNodes nodes keys.now × KeyedLinks links akeys.now bkeys.now }
     ensures { result ≡ first_refusal_below (link_refusal_at nodes links) links.count }
 {
+    let n = nodes.count as usize;
     let m = links.count as usize;
-    let mut i: usize = 0;
-    while i < m {
-        let l = links.items[i];
-        let k = link_refusal(
-            false,
-            links.form,
-            keys,
-            nodes.count as usize,
-            akeys,
-            bkeys,
-            i,
-            l,
-        );
+    for (i, l) in links.items[..m].iter().enumerate() {
+        let k = link_refusal(false, links.form, keys, n, akeys, bkeys, i, *l);
         if k != 0 {
             return k;
         }
-        i += 1;
     }
     0
 }

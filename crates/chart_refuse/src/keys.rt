@@ -8,19 +8,14 @@ use chart::Nodes;
 pub fn station_key(s: Station) -> u32
     ensures { StationKeyed s result }
 {
-    let b = s.brigade;
-    let n = s.node.0;
-    b as u32 * 65536 + n as u32
+    s.brigade as u32 * 65536 + s.node.0 as u32
 }
 
 // The four bytes of an end as one number.
 pub fn end_key(e: Address) -> u32
     ensures { EndKeyed e result }
 {
-    let b = e.brigade;
-    let n = e.node.0;
-    let p = e.port.0;
-    b as u32 * 16777216 + n as u32 * 256 + p as u32
+    e.brigade as u32 * 16777216 + e.node.0 as u32 * 256 + e.port.0 as u32
 }
 
 // The keys of all 16 places of nodes.
@@ -28,11 +23,8 @@ pub fn station_keys(nodes: Nodes) -> [u32; 16]
     ensures { KeysOf nodes result }
 {
     let mut keys = [0u32; 16];
-    let mut i: usize = 0;
-    while i < 16 {
-        let node = nodes.items[i];
+    for (i, node) in nodes.items.iter().enumerate() {
         keys[i] = station_key(node.station);
-        i += 1;
     }
     keys
 }

@@ -1,5 +1,5 @@
 // What the values of a chart may be: refusal 24.
-ghost use Rattle.std.specs.Prelude.{◌≡◌, ◌≤◌};
+ghost use Rattle.std.specs.Prelude.{◌≡◌, ◌≤◌, length};
 ghost use Rattle.lists.specs.Places.{any_below};
 ghost use Rattle.chart.specs.Values.{longest_label, stray_byte, node_in_range, end_in_range, direction_in_range};
 
@@ -10,19 +10,13 @@ const LOWEST_BYTE: u8 = 32;
 
 const HIGHEST_BYTE: u8 = 126;
 
-// Whether one of the first n bytes is none that a label may have. No early return, so the compiler looks at several bytes at once.
-fn any_stray(label: [u8; 24], n: usize) -> bool
-    requires { n ≤ longest_label }
-    ensures { result ≡ any_below (stray_byte label) n }
+// Whether one of the bytes is none that a label may have. No early return, so the compiler looks at several bytes at once.
+fn any_stray(label: &[u8]) -> bool
+    ensures { result ≡ any_below (stray_byte label.now) (length label.now) }
 {
     let mut found = false;
-    let mut i: usize = 0;
-    while i < n {
-        let x = label[i];
-        if (x < LOWEST_BYTE) | (HIGHEST_BYTE < x) {
-            found = true;
-        }
-        i += 1;
+    for x in label {
+        found |= (*x < LOWEST_BYTE) | (HIGHEST_BYTE < *x);
     }
     found
 }
@@ -32,8 +26,7 @@ pub fn node_in_range(n: ChartNode) -> bool
     requires { n.length ≤ longest_label }
     ensures { result ≡ node_in_range n }
 {
-    let label = n.label;
-    station_in_range(n.station) & !any_stray(label, n.length as usize)
+    station_in_range(n.station) & !any_stray(&n.label[..n.length as usize])
 }
 
 // Whether the address is in range and its port 1 to 63.

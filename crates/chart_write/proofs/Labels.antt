@@ -13,7 +13,6 @@ use Rattle.address.specs.Address.{station_in_range}
 use Rattle.chart.specs.declared.ChartNode.{ChartNode}
 use Rattle.chart.specs.declared.Nodes.{Nodes}
 use Rattle.chart.specs.declared.Links.{Links}
-use Rattle.chart.specs.declared.Chart.{Chart}
 use Rattle.chart.specs.Values.{no_node, node_at, link_at, node_in_range}
 use Rattle.chart.specs.Refusals.{node_refusal}
 use Rattle.chart_refuse.specs.Refusal.{nodes_before, links_before, node_refusal_at, link_refusal_at, chart_values_refusal, chart_refusal}

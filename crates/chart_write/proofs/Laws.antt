@@ -3,9 +3,9 @@ use Prim.Native.Nat.{ℕ, ◌+◌, ◌*◌, ◌<◌, ◌≤◌}
 use mathlib.Core.Path.{◌≡◌, refl, sym, ap, ap₂, ◌∙◌}
 use mathlib.Core.List.{List, [], ◌∷◌, ◌++◌, append_assoc}
 use mathlib.Core.Bool.{Bool, true, false, cond}
-use native.Mathlib.Nat.{mul-suc, mul-le-mul, mul-le-mul_left}
+use native.Mathlib.Nat.{mul-le-mul}
 use native.Mathlib.Omega.{arith}
-use lib.ListN.{length, get_or, take, drop, length-append}
+use lib.ListN.{length, get_or, take, drop, length-append, length-take}
 use lib.Dec.{eqb}
 use lib.Seq.{sets}
 use borrow.Author.Tests.{lt-ltb, le-ltb, eq-eqb, ne_eqb}
@@ -28,7 +28,7 @@ use Rattle.chart.specs.declared.Nodes.{Nodes}
 use Rattle.chart.specs.declared.Links.{Links}
 use Rattle.chart.specs.declared.Chart.{Chart}
 use Rattle.chart.specs.Values.{most_links, longest_label, node_at, link_at}
-use Rattle.chart.proofs.Laws.{node-read}
+use Rattle.chart.proofs.Laws.{node-taken}
 use Rattle.chart_refuse.specs.Refusal.{chart_refusal}
 use Rattle.chart_read.specs.Fields.{node_tag, question_tag, shortest_node, longest_node, directed_length, link_length, question_length, tagged}
 use Rattle.chart_read.proofs.Laws.{link-length-bounds}
@@ -92,13 +92,7 @@ pub length-link : (form : ℕ) (l : Link) → length (link_field form l) ≡ lin
 unfolding link_field
 length-link form l = length-tagged form (link_body form l) ∙ ap (λ (n : ℕ). head_size + n) (length-link-body l form)
 
--- fields of one size: where all fit the next does, and 48 have at most 624 bytes
-size-within : (w i n : ℕ) → i < n → w * i + w ≤ w * n
-size-within w i n h = rw (sym (mul-suc w i)) (mul-le-mul_left w h)
-
-pub next_fits : (form : ℕ) {size : ℕ} (at i n room : ℕ) → size ≡ link_field_size form → i < n → at + link_field_size form * n ≤ room → at + size * i + size ≤ room
-next_fits form at i n room e h k = rw e (omega (arith, size-within (link_field_size form) i n h))
-
+-- 48 fields of one size have at most 624 bytes
 pub size-most : (w i : ℕ) → w ≤ head_size + directed_length → i ≤ most_links → w * i ≤ 624
 size-most w i h k = mul-le-mul h k
 
@@ -133,8 +127,10 @@ chart-end c {at} e f = ap (λ (w : ℕ). at + w * c.links.count + question_field
 -- ---- what a loop reads and stores at a place
 
 -- the label of a node that is read
-pub short-read : (ns : Nodes) → Short ns → (d : ChartNode) (i : ℕ) → i < ns.count → i < length ns.items → (get_or ns.items i d).length ≤ longest_label
-short-read ns s d i h k = omega (arith, s.short i h, ap (λ (n : ChartNode). n.length) (node-read ns d i k))
+pub short-read : (ns : Nodes) → Short ns → (d : ChartNode) (i : ℕ) → i < length (take ns.count ns.items) → (get_or (take ns.count ns.items) i d).length ≤ longest_label
+short-read ns s d i k =
+    let h : i < ns.count = omega (arith, length-take ns.count ns.items) in
+    omega (arith, s.short i h, ap (λ (n : ChartNode). n.length) (node-taken ns d ns.count i k))
 
 -- the offset past the first i nodes, each with a field of at most 30 bytes
 abbrev pub Past : Nodes → ℕ → ℕ → Type 0
@@ -143,18 +139,19 @@ Past ns i at = (at ≡ length (joined node_field (node_at ns) i)) × (at ≤ lon
 pub past-none : (ns : Nodes) → Past ns 0 0
 past-none ns = (rw (joined-none node_field (node_at ns)) refl, omega arith)
 
-pub past_next : (ns : Nodes) (d : ChartNode) (i at long : ℕ) → i < length ns.items → (long ≡ length (node_body (get_or ns.items i d))) × (long ≤ longest_node)
+pub past_next : (ns : Nodes) (d : ChartNode) (i at long : ℕ) → i < length (take ns.count ns.items) → (long ≡ length (node_body (get_or (take ns.count ns.items) i d))) × (long ≤ longest_node)
     → Past ns i at → Past ns (i + 1) (at + (head_size + long))
 past_next ns d i at long h e p = (
-  omega (arith, e.0, p.0, length-joined-next node_field (node_at ns) i, length-node (node_at ns i), ap (λ (n : ChartNode). length (node_body n)) (node-read ns d i h)),
+  omega (arith, e.0, p.0, length-joined-next node_field (node_at ns) i, length-node (node_at ns i), ap (λ (n : ChartNode). length (node_body n)) (node-taken ns d ns.count i h)),
   omega (arith, e.1, p.1),
 )
 
 -- where the fields of all nodes fit, the next does
-pub node-fits : (ns : Nodes) (d : ChartNode) (i at room : ℕ) → i < ns.count → i < length ns.items → Past ns i at → length (joined node_field (node_at ns) ns.count) ≤ room
-    → at + length (node_field (get_or ns.items i d)) ≤ room
-node-fits ns d i at room h k p m =
-    omega (arith, p.0, joined-within node_field (node_at ns) ns.count i h, ap (λ (n : ChartNode). length (node_field n)) (node-read ns d i k))
+pub node-fits : (ns : Nodes) (d : ChartNode) (i at room : ℕ) → i < length (take ns.count ns.items) → Past ns i at → length (joined node_field (node_at ns) ns.count) ≤ room
+    → at + length (node_field (get_or (take ns.count ns.items) i d)) ≤ room
+node-fits ns d i at room k p m =
+    let h : i < ns.count = omega (arith, length-take ns.count ns.items) in
+    omega (arith, p.0, joined-within node_field (node_at ns) ns.count i h, ap (λ (n : ChartNode). length (node_field n)) (node-taken ns d ns.count i k))
 
 -- ---- a chart whose number is 0
 

@@ -6,7 +6,6 @@ use native.Mathlib.Omega.{arith}
 use lib.ListN.{length, take, drop}
 use lib.Seq.{take_at}
 use borrow.Author.Tests.{le-ltb}
-use Rattle.buffer.specs.Bytes.{Bytes}
 use Rattle.buffer.specs.declared.Written.TheVariants.{Wrote}
 use Rattle.lists.proofs.Refusals.{taken, or-pass}
 use Rattle.buffer.proofs.Writing.{wrote-size, wrote-taken}
@@ -14,7 +13,7 @@ use Rattle.chart.specs.declared.Chart.{Chart}
 use Rattle.chart.specs.Values.{link_at}
 use Rattle.chart_read.specs.Reading.{read_chart_of}
 use Rattle.chart_refuse.specs.Refusal.{chart_values_refusal, chart_refusal}
-use Rattle.chart_write.specs.Writing.{longest_chart, chart_bytes, chart_write_refusal, write_chart_of, chart_after, tidy}
+use Rattle.chart_write.specs.Writing.{chart_bytes, chart_write_refusal, write_chart_of, chart_after, tidy}
 use Rattle.chart_write.specs.Promises.{ChartReadUndoesWrite, ChartWriteUndoesRead, ChartsShort, PlacesNear, SameRefusal}
 use Rattle.chart_refuse.proofs.Laws.{passed, node_of, link-of}
 use Rattle.chart_write.proofs.Laws.{nodes-most, links-few, length-chart, refusal-none}

@@ -6,14 +6,14 @@ use mathlib.Core.Bool.{Bool, true, false, cond}
 use native.Mathlib.Decide.{dec_lt}
 use native.Mathlib.Omega.{arith}
 use lib.ListN.{length, take, drop, get_or, set, length-set, length-drop, length-append, drop_of_length-le}
-use lib.Seq.{take_all, get_or-set_same, get_or-set_other, get_or-drop, drop-cons, length-take-le}
+use lib.Seq.{take_all, get_or-set_same, get_or-set_other, drop-cons, length-take-le}
 use lib.Dec.{ltb, leb, eqb}
 use borrow.Author.Tests.{ltb-false, leb-true, leb-false, eqb-true}
 use Rattle.buffer.specs.Bytes.{Bytes}
 use Rattle.lists.specs.Places.{element_at, firsts, row, joined}
 use Rattle.lists.proofs.Bools.{or-neither-of}
 use Rattle.lists.proofs.Places.{firsts-agree, row_at, joined-none}
-use Rattle.lists.proofs.Runs.{firsts-take, joined-set}
+use Rattle.lists.proofs.Runs.{joined-set}
 use Rattle.address.specs.declared.Station.{Station}
 use Rattle.address_bytes.specs.Wide.{station_in}
 use Rattle.chart.specs.declared.ChartNode.{ChartNode}
@@ -25,7 +25,7 @@ use Rattle.chart.proofs.Laws.{node-passed, link-passed, question-passed}
 use Rattle.chart_read.specs.declared.ChartRead.{ChartRead}
 use Rattle.chart_read.specs.Fields.{is_form, plain_length, directed_length, link_length, question_length, tagged, tag_at, body_at, past_field, bytes_from, node_in, link_in}
 use Rattle.chart_read.specs.Reading.{SoFar, nothing, with_node, with_link, with_question, with_body, node_late, mixes, link_late, link_after, refusing, node_body_refusal, link_body_refusal, question_body_refusal, body_refusal, field_refusal, refused_at, at_end, onward, walk, read_chart_of}
-use Rattle.chart_read.proofs.Laws.{link-length-bounds, with-node, with-link, with-question, node-zero, link-zero, question-tag, question-zero, node-bounds, link-bounds, question-bounds, whole, body-zero}
+use Rattle.chart_read.proofs.Laws.{part, link-length-bounds, with-node, with-link, with-question, node-zero, link-zero, question-tag, question-zero, node-bounds, link-bounds, question-bounds, whole, body-zero}
 use Rattle.chart_read.proofs.Fields.{three-on, field-there, bytes-body}
 use Rattle.buffer.proofs.Words.{high-back, low-back}
 use Rattle.chart_read.proofs.Walking.{held_past, turn, walk_end}
@@ -35,19 +35,17 @@ use Rattle.chart_write.proofs.Forms.{Said, AllSaid, in-range-said, unmixed, form
 
 -- ---- the bodies: what a body says, written, is the body
 
-rest-firsts : (b : List ℕ) → firsts (bytes_from b 3) (length b - 3) ≡ drop 3 b
-unfolding bytes_from element_at
-rest-firsts b =
+rest-firsts : (b : List ℕ) → 3 ≤ length b → firsts (bytes_from b 3) (length b - 3) ≡ drop 3 b
+unfolding bytes_from
+rest-firsts b h =
     let n : length (drop 3 b) ≡ length b - 3 = length-drop 3 b in
-    firsts-agree (bytes_from b 3) (element_at 0 (drop 3 b)) (length b - 3) (λ i h. sym (get_or-drop 3 b i 0))
-    ∙ sym (firsts-take 0 (drop 3 b) (length b - 3) (omega arith))
-    ∙ take_all (length b - 3) (drop 3 b) (omega arith)
+    part b 3 (length b - 3) (omega arith) ∙ take_all (length b - 3) (drop 3 b) (omega arith)
 
 node-body-back : (b : List ℕ) → Bytes b → 3 ≤ length b → node_body (node_in b) ≡ b
 unfolding node_body node_in
 node-body-back b s h =
     let f : firsts (element_at 0 (row 24 0 (bytes_from b 3) (length b - 3))) (length b - 3) ≡ drop 3 b =
-    firsts-agree (element_at 0 (row 24 0 (bytes_from b 3) (length b - 3))) (bytes_from b 3) (length b - 3) (λ i l. sym (row_at 24 0 (bytes_from b 3) (length b - 3) i l)) ∙ rest-firsts b in
+    firsts-agree (element_at 0 (row 24 0 (bytes_from b 3) (length b - 3))) (bytes_from b 3) (length b - 3) (λ i l. sym (row_at 24 0 (bytes_from b 3) (length b - 3) i l)) ∙ rest-firsts b h in
     (λ i. get_or b 0 0 ∷ high-back (get_or b 1 0) (get_or b 2 0) (s 2) i ∷ low-back (get_or b 1 0) (get_or b 2 0) (s 2) i ∷ f i)
     ∙ sym (three-on b 0 (omega arith))
 

@@ -1,18 +1,11 @@
 // The bodies of a link's field and of the question's.
 ghost use Rattle.std.specs.Prelude.{◌≡◌};
 ghost use Rattle.chart.specs.Values.{directed};
-ghost use Rattle.chart_write.specs.Writing.{on_byte, link_body, question_body};
+ghost use Rattle.chart_write.specs.Writing.{link_body, question_body};
 
 use address::Station;
 use chart::Link;
 use chart_read::{DIRECTED_LENGTH, QUESTION_LENGTH};
-
-// 1 on, 0 off.
-fn on_byte(on: bool) -> u8
-    ensures { result ≡ on_byte on }
-{
-    if on { 1 } else { 0 }
-}
 
 // A link's body in the directed form. Without its last byte it is that in the plain one.
 pub fn link_body(l: Link) -> [u8; DIRECTED_LENGTH]
@@ -20,7 +13,6 @@ pub fn link_body(l: Link) -> [u8; DIRECTED_LENGTH]
 {
     let a = address_bytes::address_bytes(l.a);
     let b = address_bytes::address_bytes(l.b);
-    let on = on_byte(l.on);
     [
         a[0],
         a[1],
@@ -30,7 +22,7 @@ pub fn link_body(l: Link) -> [u8; DIRECTED_LENGTH]
         b[1],
         b[2],
         b[3],
-        on,
+        u8::from(l.on),
         l.direction,
     ]
 }

@@ -34,11 +34,8 @@ fn nodes_size(nodes: Nodes) -> usize
     ensures { (result ≡ length (joined node_field (node_at nodes) nodes.count)) × (result ≤ most_node_bytes) }
 {
     let mut size: usize = 0;
-    let mut i: usize = 0;
-    while i < nodes.count as usize {
-        let n = nodes.items[i];
-        size += HEAD_SIZE + node_length(n);
-        i += 1;
+    for n in &nodes.items[..nodes.count as usize] {
+        size += HEAD_SIZE + node_length(*n);
     }
     size
 }
@@ -55,8 +52,7 @@ pub fn chart_size(c: Chart) -> usize
     requires { chart_refusal c ≡ 0 }
     ensures { result ≡ length (chart_bytes c) }
 {
-    let nodes = c.nodes;
-    nodes_size(nodes)
+    nodes_size(c.nodes)
         + link_field_size(c.links.form) * (c.links.count as usize)
         + QUESTION_FIELD_SIZE
 }
@@ -66,9 +62,10 @@ fn put_head(out: &mut [u8], at: usize, tag: u8, long: usize)
     requires { (at + head_size ≤ length out.old) × (long ≤ longest_body) }
     ensures { out.new ≡ sets out.old at (tag ∷ word_bytes long) }
 {
+    let [high, low] = (long as u16).to_be_bytes();
     out[at] = tag;
-    out[at + 1] = (long / 256) as u8;
-    out[at + 2] = (long % 256) as u8;
+    out[at + 1] = high;
+    out[at + 2] = low;
 }
 
 // The field of a body, from an offset on.
@@ -97,8 +94,7 @@ fn put_node(out: &mut [u8], at: usize, n: ChartNode)
     let body = at + HEAD_SIZE;
     let s = address_bytes::station_bytes(n.station);
     buffer::put_all(out, body, &s);
-    let label = n.label;
-    put_label(out, body + SHORTEST_NODE, label, n.length as usize);
+    put_label(out, body + SHORTEST_NODE, n.label, n.length as usize);
 }
 
 // The nodes' fields at the start, and the offset past them.
@@ -107,12 +103,9 @@ fn put_nodes(out: &mut [u8], nodes: Nodes) -> usize
     ensures { (result ≡ length (joined node_field (node_at nodes) nodes.count)) × (out.new ≡ sets out.old 0 (joined node_field (node_at nodes) nodes.count)) }
 {
     let mut at: usize = 0;
-    let mut i: usize = 0;
-    while i < nodes.count as usize {
-        let n = nodes.items[i];
-        put_node(out, at, n);
-        at += HEAD_SIZE + node_length(n);
-        i += 1;
+    for n in &nodes.items[..nodes.count as usize] {
+        put_node(out, at, *n);
+        at += HEAD_SIZE + node_length(*n);
     }
     at
 }
@@ -136,11 +129,8 @@ fn put_links(out: &mut [u8], at: usize, links: Links)
     ensures { out.new ≡ sets out.old at (joined (link_field links.form) (link_at links) links.count) }
 {
     let size = link_field_size(links.form);
-    let mut i: usize = 0;
-    while i < links.count as usize {
-        let l = links.items[i];
-        put_link(out, at + size * i, links.form, l);
-        i += 1;
+    for (i, l) in links.items[..links.count as usize].iter().enumerate() {
+        put_link(out, at + size * i, links.form, *l);
     }
 }
 
@@ -149,11 +139,9 @@ pub fn put_chart(c: Chart, out: &mut [u8])
     requires { (chart_refusal c ≡ 0) × (length (chart_bytes c) ≤ length out.old) }
     ensures { out.new ≡ sets out.old 0 (chart_bytes c) }
 {
-    let nodes = c.nodes;
     let links = c.links;
-    let at = put_nodes(out, nodes);
+    let at = put_nodes(out, c.nodes);
     put_links(out, at, links);
     let next = at + link_field_size(links.form) * (links.count as usize);
-    let b = question_body(c.from, c.to);
-    put_field(out, next, QUESTION_TAG, &b);
+    put_field(out, next, QUESTION_TAG, &question_body(c.from, c.to));
 }

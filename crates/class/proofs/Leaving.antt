@@ -5,7 +5,6 @@ use mathlib.Core.Bool.{Bool, true, false, not, cond, ◌&&◌, ◌||◌, and-tru
 use mathlib.Core.Option.{Option, none, some}
 use native.Mathlib.Omega.{arith}
 use lib.Dec.{eqb, leb}
-use lib.ListN.{length, get_or}
 use borrow.Author.Tests.{le-ltb, leb-true, eqb-true}
 use Rattle.lists.specs.Places.{any_below, first_below}
 use Rattle.lists.proofs.Bools.{and_right, both_ways}
@@ -19,16 +18,14 @@ use Rattle.chart.specs.declared.Links.{Links}
 use Rattle.chart.specs.declared.Nodes.{Nodes}
 use Rattle.chart.specs.declared.Chart.{Chart}
 use Rattle.chart.specs.Values.{node_at, link_at, end_in_range, direction_in_range, link_in_range}
-use Rattle.chart.proofs.Laws.{link-read}
 use Rattle.chart_refuse.specs.Promises.{Accepted}
 use Rattle.chart_net.specs.Net.{station_place, goes_out, goes_back, across, placed, far_end}
 use Rattle.chart_net.specs.Private.{station_place_for}
 use Rattle.chart_net.proofs.Kept.{far-there}
 use Rattle.chart_net.proofs.Places.{crossed, station-eq, station-refl, own-place, place-few}
 use Rattle.table_write.specs.Writing.{near_end}
-use Rattle.class.specs.declared.links.Coming.{Coming}
 use Rattle.class.specs.Class.{is_there, leaves_by, away_end, came_in, came_over, out_by}
-use Rattle.class.specs.Private.{leaves_first, leaves_second, leaves_at, coming_of}
+use Rattle.class.specs.Private.{leaves_first, leaves_second, leaves_at}
 use Rattle.class.proofs.Ends.{away_of, over}
 use Rattle.class.proofs.Ports.{leaves-over}
 
@@ -46,26 +43,15 @@ module _ (l : Link) (s : Station) where
 
 -- the links one by one
 module _ (ls : Links) (s : Station) (p : Port) where
-  pub leaves-read : (z : Link) (i : ℕ) → i < length ls.items → {x y : Bool} → x ≡ leaves_first (get_or ls.items i z) s p
-      → y ≡ leaves_second (get_or ls.items i z) s p → (x || y) ≡ leaves_at ls s p i
+  pub leaves-read : (i : ℕ) {l : Link} {x y : Bool} → l ≡ link_at ls i → x ≡ leaves_first l s p → y ≡ leaves_second l s p → (x || y) ≡ leaves_at ls s p i
   unfolding leaves_at
-  leaves-read z i h e f = rw (e, f, link-read ls z i h)
+  leaves-read i q e f = rw (e, f, q)
 
   pub exit-here : (i : ℕ) → i < ls.count → any_below (leaves_at ls s p) i ≡ false → leaves_at ls s p i ≡ true → i ≡ first_below (leaves_at ls s p) ls.count
   exit-here i l n e = sym (first-stop (leaves_at ls s p) ls.count i (record { below = l; passes = e; none_before = n }))
 
-  pub exit-none : {i : ℕ} → i ≡ ls.count → any_below (leaves_at ls s p) i ≡ false → i ≡ first_below (leaves_at ls s p) ls.count
-  exit-none e n = e ∙ sym (first-none (leaves_at ls s p) ls.count (ap (any_below (leaves_at ls s p)) (sym e) ∙ n))
-
--- where it comes in, if there is such a link
-module _ (x : Coming) where
-  pub coming-none : x.there ≡ false → coming_of x ≡ none
-  unfolding coming_of
-  coming-none h = rw h
-
-  pub coming-some : x.there ≡ true → coming_of x ≡ some (record { node = x.node; port = x.port })
-  unfolding coming_of
-  coming-some h = rw h
+  pub exit-none : {i : ℕ} → i ≡ ls.count → any_below (leaves_at ls s p) i ≡ false → ls.count ≡ first_below (leaves_at ls s p) ls.count
+  exit-none e n = sym (first-none (leaves_at ls s p) ls.count (ap (any_below (leaves_at ls s p)) (sym e) ∙ n))
 
 -- ---- the two ends of a link
 

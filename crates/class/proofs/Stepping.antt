@@ -1,8 +1,9 @@
 -- A step of a message under way, by what the node where it is chose.
 use Prim.Native.Nat.{ℕ}
 use mathlib.Core.Path.{◌≡◌, sym, ap, ◌∙◌}
-use mathlib.Core.Bool.{true, false}
 use mathlib.Core.Option.{Option}
+use Rattle.std.specs.declared.option.Option.{Option as CodeOption}
+use Rattle.std.specs.declared.option.Option.TheVariants.{None, Some}
 use Rattle.address.specs.declared.Port.{Port}
 use Rattle.address.specs.declared.Address.{Address}
 use Rattle.table.specs.declared.Table.{Table}
@@ -14,7 +15,6 @@ use Rattle.class.specs.declared.Message.{Message}
 use Rattle.class.specs.declared.links.Coming.{Coming}
 use Rattle.class.specs.Class.{under_way, delivered, without_route, without_link, Arrival, out_by, ended_with, came_to, went_out, after_choice, step_on}
 use Rattle.class.specs.Private.{coming_of}
-use Rattle.class.proofs.Leaving.{coming-none, coming-some}
 use Rattle.class.proofs.Steps.{step-moving}
 
 module _ (c : Chart) (ts : ℕ → Table) (d : Address) (m : Message) (u : m.ending ≡ under_way) (o : Choice) (e : o ≡ choose_of (ts m.at) d m.arrival) where
@@ -29,16 +29,16 @@ module _ (c : Chart) (ts : ℕ → Table) (d : Address) (m : Message) (u : m.end
   unfolding after_choice
   step-refused k h = by h
 
-  module _ (p : Port) (h : o ≡ Out p) (x : Coming) (q : coming_of x ≡ out_by c m.at p) where
+  module _ (p : Port) (h : o ≡ Out p) (x : CodeOption Coming) (q : coming_of x ≡ out_by c m.at p) where
     out : {y : Option Arrival} → coming_of x ≡ y → went_out m y ≡ step_on c ts d m
     unfolding after_choice
     out z = ap (went_out m) (sym z ∙ q) ∙ by h
 
     -- no link leaves by the port, or one does
-    pub step-nowhere : x.there ≡ false → ended_with without_link m ≡ step_on c ts d m
-    unfolding went_out
-    step-nowhere t = out (coming-none x t)
+    pub step-nowhere : x ≡ None → ended_with without_link m ≡ step_on c ts d m
+    unfolding went_out coming_of
+    step-nowhere t = out (ap coming_of t)
 
-    pub step-over : x.there ≡ true → came_to m (record { node = x.node; port = x.port }) ≡ step_on c ts d m
-    unfolding went_out
-    step-over t = out (coming-some x t)
+    pub step-over : {y : Coming} → x ≡ Some y → came_to m (record { node = y.node; port = y.port }) ≡ step_on c ts d m
+    unfolding went_out coming_of
+    step-over t = out (ap coming_of t)

@@ -1,6 +1,8 @@
 -- What private code of the class is held to.
-use Rattle.std.specs.Prelude.{ℕ, ◌<◌, ◌≤◌, Bool, not, cond, ◌&&◌, ◌||◌, List, eqb, length, get_or}
+use Rattle.std.specs.Prelude.{ℕ, ◌<◌, ◌≤◌, Bool, not, ◌&&◌, ◌||◌, List, eqb, length, get_or}
 use Rattle.std.proofs.Math.Option.{Option, none, some}
+use Rattle.std.specs.declared.option.Option.{Option as CodeOption}
+use Rattle.std.specs.declared.option.Option.TheVariants.{None, Some}
 use Rattle.lists.specs.Places.{row}
 use Rattle.address.specs.declared.Port.{Port}
 use Rattle.address.specs.declared.Station.{Station}
@@ -29,8 +31,9 @@ unfoldable pub leaves_at : Links → Station → Port → ℕ → Bool
 leaves_at ls s p i = leaves_first (link_at ls i) s p || leaves_second (link_at ls i) s p
 
 -- where a message comes in, as the code holds it
-unfoldable pub coming_of : Coming → Option Arrival
-coming_of x = cond x.there (some (record { node = x.node; port = x.port })) none
+unfoldable pub coming_of : CodeOption Coming → Option Arrival
+coming_of None = none
+coming_of (Some x) = some (record { node = x.node; port = x.port })
 
 -- a message at one of the places of an accepted chart, and an image of tables that is long enough
 pub record Going (c : Chart) (tables : List ℕ) (a : ℕ) : Type 0 where

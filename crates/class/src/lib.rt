@@ -77,13 +77,7 @@ fn begun(at: u8) -> Message
 fn ended(m: Message, ending: u8) -> Message
     ensures { result ≡ ended_with ending m }
 {
-    let arrival = m.arrival;
-    Message {
-        at: m.at,
-        arrival,
-        met: m.met,
-        ending,
-    }
+    Message { ending, ..m }
 }
 
 // It comes to a node by a port: at one that it has met it ends.
@@ -116,18 +110,13 @@ fn step_on(c: Chart, tables: &[u8], d: Address, m: Message) -> Message
     if m.ending != UNDER_WAY {
         return m;
     }
-    let arrival = m.arrival;
-    match choice_of(tables, m.at as usize, d, arrival) {
+    match choice_of(tables, m.at as usize, d, m.arrival) {
         Choice::Local(_) => ended(m, DELIVERED),
         Choice::Refused(_) => ended(m, WITHOUT_ROUTE),
-        Choice::Out(p) => {
-            let x = out_by(c, m.at as usize, p);
-            if !x.there {
-                return ended(m, WITHOUT_LINK);
-            }
-            let q = x.port;
-            came_to(m, x.node, q)
-        }
+        Choice::Out(p) => match out_by(c, m.at as usize, p) {
+            Some(x) => came_to(m, x.node, x.port),
+            None => ended(m, WITHOUT_LINK),
+        },
     }
 }
 
@@ -155,8 +144,7 @@ pub fn begin(chart: &[u8], tables: &[u8], s: Station, d: Address) -> Sent
     if read.refusal != 0 {
         return no_message(read.refusal, read.place);
     }
-    let c = read.chart;
-    let nodes = c.nodes;
+    let nodes = read.chart.nodes;
     let at = chart_net::place_of(nodes, s);
     let refusal = class_refusal(nodes, tables, at, d, Port(0));
     if refusal != 0 {
@@ -182,9 +170,7 @@ pub fn step(chart: &[u8], tables: &[u8], d: Address, m: Message) -> Sent
         };
     }
     let c = read.chart;
-    let nodes = c.nodes;
-    let arrival = m.arrival;
-    let refusal = class_refusal(nodes, tables, m.at, d, arrival);
+    let refusal = class_refusal(c.nodes, tables, m.at, d, m.arrival);
     if refusal != 0 {
         return Sent {
             refusal,
@@ -249,9 +235,8 @@ pub fn pass(chart: &[u8], tables: &[u8], s: Station, d: Address) -> Passed
         return no_way(read.refusal, read.place);
     }
     let c = read.chart;
-    let nodes = c.nodes;
-    let at = chart_net::place_of(nodes, s);
-    let refusal = class_refusal(nodes, tables, at, d, Port(0));
+    let at = chart_net::place_of(c.nodes, s);
+    let refusal = class_refusal(c.nodes, tables, at, d, Port(0));
     if refusal != 0 {
         return no_way(refusal, 0);
     }

@@ -9,10 +9,9 @@ ghost use Rattle.class.specs.Private.{leaves_first, leaves_second, leaves_at, co
 use address::{Address, Port, Station};
 use chart::{BACK_ONLY, Chart, Link, Links, OUT_ONLY};
 
-// Where it comes in, if a link leaves the node by that port: at a node place, by a port.
+// Where it comes in: at a node place, by a port.
 #[derive(Clone, Copy)]
 pub struct Coming {
-    pub there: bool,
     pub node: u8,
     pub port: Port,
 }
@@ -21,20 +20,18 @@ pub struct Coming {
 fn leaves_first(l: Link, s: Station, p: Port) -> bool
     ensures { result ≡ leaves_first l s p }
 {
-    let a = l.a;
     l.on & (l.direction != BACK_ONLY)
-        & (a.port.0 == p.0)
-        & address::same_station(address::station_of(a), s)
+        & (l.a.port.0 == p.0)
+        & address::same_station(address::station_of(l.a), s)
 }
 
 // Whether it is passed from its second end there.
 fn leaves_second(l: Link, s: Station, p: Port) -> bool
     ensures { result ≡ leaves_second l s p }
 {
-    let b = l.b;
     l.on & (l.direction != OUT_ONLY)
-        & (b.port.0 == p.0)
-        & address::same_station(address::station_of(b), s)
+        & (l.b.port.0 == p.0)
+        & address::same_station(address::station_of(l.b), s)
 }
 
 // The first link that leaves a station by the port, or the number of the links.
@@ -43,53 +40,38 @@ fn exit_link(links: Links, s: Station, p: Port) -> usize
     ensures { result ≡ first_below (leaves_at links s p) links.count }
 {
     let n = links.count as usize;
-    let mut i: usize = 0;
-    while i < n {
-        let l = links.items[i];
-        if leaves_first(l, s, p) | leaves_second(l, s, p) {
+    for (i, l) in links.items[..n].iter().enumerate() {
+        if leaves_first(*l, s, p) | leaves_second(*l, s, p) {
             return i;
         }
-        i += 1;
     }
-    i
+    n
 }
 
 // The end at which one comes in who goes over a link from a station.
 fn away_end(l: Link, s: Station) -> Address
     ensures { result ≡ away_end l s }
 {
-    let a = l.a;
-    let b = l.b;
-    if address::same_station(address::station_of(a), s) {
-        return b;
+    if address::same_station(address::station_of(l.a), s) {
+        return l.b;
     }
-    a
+    l.a
 }
 
-// Where a message comes in that leaves the node at a place by the port.
-pub fn out_by(c: Chart, at: usize, p: Port) -> Coming
+// Where a message comes in that leaves the node at a place by the port, if a link leaves there.
+pub fn out_by(c: Chart, at: usize, p: Port) -> Option<Coming>
     requires accepted { Accepted c }
     requires there { at < c.nodes.count }
     ensures { coming_of result ≡ out_by c at p }
 {
-    let nodes = c.nodes;
-    let links = c.links;
-    let own = nodes.items[at];
-    let s = own.station;
-    let i = exit_link(links, s, p);
-    if links.count as usize <= i {
-        return Coming {
-            there: false,
-            node: 0,
-            port: Port(0),
-        };
+    let s = c.nodes.items[at].station;
+    let i = exit_link(c.links, s, p);
+    if c.links.count as usize <= i {
+        return None;
     }
-    let l = links.items[i];
-    let e = away_end(l, s);
-    let port = e.port;
-    Coming {
-        there: true,
-        node: chart_net::place_of(nodes, address::station_of(e)),
-        port,
-    }
+    let e = away_end(c.links.items[i], s);
+    Some(Coming {
+        node: chart_net::place_of(c.nodes, address::station_of(e)),
+        port: e.port,
+    })
 }

@@ -16,8 +16,7 @@ pub fn choice_of(tables: &[u8], at: usize, d: Address, arrival: Port) -> Choice
     requires within { at < most_nodes }
     ensures { result ≡ choose_of (tables_in tables.now at) d arrival }
 {
-    let start = TABLE_SIZE * at;
-    table_image::choose_in(&tables[start..], d, arrival)
+    table_image::choose_in(&tables[TABLE_SIZE * at..], d, arrival)
 }
 
 // The own station of its table, which was found in range.
@@ -27,9 +26,8 @@ pub fn own_held(tables: &[u8], at: usize) -> Station
     ensures { result ≡ own_station (tables_in tables.now at) }
 {
     let start = TABLE_SIZE * at;
-    let node = buffer::word_at(tables, start + 1);
     Station {
         brigade: buffer::byte_at(tables, start),
-        node: Node(node),
+        node: Node(buffer::word_at(tables, start + 1)),
     }
 }

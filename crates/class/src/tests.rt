@@ -18,13 +18,10 @@ fn any_stray(tables: &[u8], n: usize) -> bool
     if tables.len() < TABLES_SIZE {
         return 0 < n;
     }
-    let mut i: usize = 0;
-    while i < n {
-        let start = TABLE_SIZE * i;
-        if !table_image::image_in_range(&tables[start..]) {
+    for i in 0..n {
+        if !table_image::image_in_range(&tables[TABLE_SIZE * i..]) {
             return true;
         }
-        i += 1;
     }
     false
 }
@@ -36,13 +33,10 @@ fn any_strange(nodes: Nodes, tables: &[u8]) -> bool
     ensures { result ≡ any_below (strange_table nodes (tables_in tables.now)) nodes.count }
 {
     let n = nodes.count as usize;
-    let mut i: usize = 0;
-    while i < n {
-        let own = nodes.items[i];
+    for (i, own) in nodes.items[..n].iter().enumerate() {
         if !address::same_station(own_held(tables, i), own.station) {
             return true;
         }
-        i += 1;
     }
     false
 }

@@ -39,7 +39,6 @@ pub fn pz_begin(
     if message.len() < MESSAGE_SIZE {
         return 10;
     }
-    let m = sent.message;
-    class_image::put_message(message, m);
+    class_image::put_message(message, sent.message);
     0
 }

@@ -26,12 +26,6 @@ pub fn message_in(b: &[u8]) -> Message
 pub fn put_message(image: &mut [u8], m: Message)
     ensures { image.new ≡ sets image.old 0 (message_bytes m) }
 {
-    let bytes = [
-        m.at,
-        m.arrival.0,
-        (m.met / 256) as u8,
-        (m.met % 256) as u8,
-        m.ending,
-    ];
-    buffer::put_all(image, 0, &bytes);
+    let [high, low] = m.met.to_be_bytes();
+    buffer::put_all(image, 0, &[m.at, m.arrival.0, high, low, m.ending]);
 }

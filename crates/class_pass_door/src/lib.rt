@@ -44,10 +44,8 @@ pub fn pz_pass(
     if way.len() < LONGEST_WAY {
         return 10;
     }
-    let n = p.count;
-    let came = p.way;
-    buffer::put_all(way, 0, &came[..n]);
-    *places = n as u8;
+    buffer::put_all(way, 0, &p.way[..p.count]);
+    *places = p.count as u8;
     *ending = p.ending;
     0
 }

@@ -34,7 +34,6 @@ pub fn pz_step(
     if message.len() < MESSAGE_SIZE {
         return 10;
     }
-    let next = sent.message;
-    class_image::put_message(message, next);
+    class_image::put_message(message, sent.message);
     0
 }

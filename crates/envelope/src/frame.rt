@@ -6,12 +6,5 @@ ghost use Rattle.envelope.specs.Frame.{check_of};
 pub fn check(s: &[u8]) -> u8
     ensures { result ≡ check_of s.now }
 {
-    let n = s.len();
-    let mut x: u8 = 0;
-    let mut i = 0;
-    while i < n {
-        x = x ^ s[i];
-        i += 1;
-    }
-    x
+    s.iter().fold(0, |x, b| x ^ *b)
 }

@@ -3,19 +3,12 @@ ghost use Rattle.std.specs.Prelude.{◌≡◌, ◌<◌, ◌≤◌, eqb};
 ghost use Rattle.lists.specs.Places.{element_at, first_below, repeat_at};
 ghost use Rattle.envelope.specs.Refusal.{most_destinations};
 
-// Whether the key at i is that of an earlier place. No early return, so the compiler compares several keys at once.
+// Whether the key at i is that of an earlier place.
 fn seen(keys: &[u32; 63], i: usize) -> bool
     requires { i < most_destinations }
     ensures { result ≡ repeat_at eqb (element_at 0 keys.now) i }
 {
-    let key = keys[i];
-    let mut found = false;
-    let mut j = 0;
-    while j < i {
-        found = found | (key == keys[j]);
-        j += 1;
-    }
-    found
+    lists::holds(&keys[..i], keys[i])
 }
 
 // The first of the first n keys that is that of an earlier place, or n.
@@ -23,12 +16,10 @@ pub fn first_seen(keys: &[u32; 63], n: u8) -> u8
     requires { n ≤ most_destinations }
     ensures { result ≡ first_below (repeat_at eqb (element_at 0 keys.now)) n }
 {
-    let mut i = 0;
-    while i < n {
+    for i in 0..n {
         if seen(keys, i as usize) {
             return i;
         }
-        i += 1;
     }
     n
 }

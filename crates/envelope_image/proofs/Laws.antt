@@ -4,7 +4,7 @@ use mathlib.Core.Path.{◌≡◌, refl, ap, ◌∙◌, sym}
 use mathlib.Core.List.{List, ◌++◌}
 use lib.ListN.{length, replicate}
 use lib.Seq.{sets}
-use Rattle.lists.specs.Places.{joined, up_to}
+use Rattle.lists.specs.Places.{joined}
 use Rattle.lists.proofs.Places.{length-joined, joined-used, joined-full}
 use Rattle.lists.proofs.Stores.{sets-append}
 use Rattle.address.specs.declared.Address.{Address}

@@ -1,5 +1,5 @@
 -- The image of an envelope by its bytes (include/poztecameh.h), and what is taken from it.
-use Rattle.std.specs.Prelude.{ℕ, ◌≡◌, refl, List, [], ◌∷◌, ◌++◌, replicate}
+use Rattle.std.specs.Prelude.{ℕ, ◌≡◌, refl, List, [], ◌∷◌, replicate}
 use Rattle.lists.specs.Places.{element_at, joined, up_to}
 use Rattle.address.specs.Address.{address_of}
 use Rattle.envelope.specs.Frame.{with_length}

@@ -15,27 +15,27 @@ use envelope::{CONTENTS_OFFSET, Fixed, MOST_DESTINATIONS};
 fn field_bytes(e: Fixed) -> [u8; 15]
     ensures { result ≡ field_bytes e }
 {
+    let [brigade, node_high, node_low, port] = address_bytes::address_bytes(e.source);
+    let [length_high, length_low] = e.length.to_be_bytes();
+    let [seq_high, seq_low] = e.seq.0.to_be_bytes();
     let at = CONTENTS_OFFSET + PACKED_SIZE * (e.count as usize);
-    let s = address_bytes::address_bytes(e.source);
-    let n = e.length;
-    let q = e.seq.0;
-    let ack = e.ack as u8;
+    let [at_high, at_low] = (at as u16).to_be_bytes();
     [
-        s[0],
-        s[1],
-        s[2],
-        s[3],
+        brigade,
+        node_high,
+        node_low,
+        port,
         e.count,
-        (n / 256) as u8,
-        (n % 256) as u8,
+        length_high,
+        length_low,
         e.priority,
         e.version,
-        ack,
-        (q / 256) as u8,
-        (q % 256) as u8,
+        e.ack as u8,
+        seq_high,
+        seq_low,
         e.kind,
-        (at / 256) as u8,
-        (at % 256) as u8,
+        at_high,
+        at_low,
     ]
 }
 
@@ -44,11 +44,9 @@ fn put_destinations(image: &mut [u8], part: &[u8], n: usize)
     requires { n ≤ most_destinations }
     ensures { image.new ≡ sets image.old 15 (joined address_bytes (destination_at part.now) n) }
 {
-    let mut i = 0;
-    while i < n {
+    for i in 0..n {
         let b = address_bytes::address_bytes(address_bytes::packed_in(part, PACKED_SIZE * i));
         buffer::put_all(image, FIELDS_SIZE + ADDRESS_SIZE * i, &b);
-        i += 1;
     }
 }
 

@@ -6,7 +6,7 @@ ghost use Rattle.envelope_image.specs.Image.{fields_in, destination_held};
 ghost use Rattle.envelope.specs.Refusal.{most_destinations};
 
 use crate::FIELDS_SIZE;
-use address::{Address, Node, Port, Seq};
+use address::{Address, Seq};
 use address_bytes::ADDRESS_SIZE;
 use envelope::{Fixed, MOST_DESTINATIONS};
 
@@ -14,16 +14,14 @@ use envelope::{Fixed, MOST_DESTINATIONS};
 pub fn fields_in(b: &[u8]) -> Fixed
     ensures { result ≡ fields_in b.now }
 {
-    let source = address_bytes::address_in(b, 0);
-    let q = buffer::word_at(b, 10);
     Fixed {
-        source,
+        source: address_bytes::address_in(b, 0),
         count: buffer::byte_at(b, 4),
         length: 0,
         priority: buffer::byte_at(b, 7),
         version: buffer::byte_at(b, 8),
         ack: buffer::byte_at(b, 9) == 1,
-        seq: Seq(q),
+        seq: Seq(buffer::word_at(b, 10)),
         kind: buffer::byte_at(b, 12),
     }
 }
@@ -33,17 +31,9 @@ fn first_addresses(b: &[u8], n: usize) -> [Address; 63]
     requires { n ≤ most_destinations }
     ensures { result ≡ row most_destinations zero_address (destination_held b.now) n }
 {
-    let zero = Address {
-        brigade: 0,
-        node: Node(0),
-        port: Port(0),
-    };
-    let mut addresses = [zero; 63];
-    let mut i = 0;
-    while i < n {
-        let a = address_bytes::address_in(b, FIELDS_SIZE + ADDRESS_SIZE * i);
-        addresses[i] = a;
-        i += 1;
+    let mut addresses = [Address::default(); 63];
+    for i in 0..n {
+        addresses[i] = address_bytes::address_in(b, FIELDS_SIZE + ADDRESS_SIZE * i);
     }
     addresses
 }
@@ -52,10 +42,6 @@ fn first_addresses(b: &[u8], n: usize) -> [Address; 63]
 pub fn addresses_in(b: &[u8]) -> [Address; 63]
     ensures { result ≡ row most_destinations zero_address (destination_held b.now) (min (fields_in b.now).count most_destinations) }
 {
-    let n = buffer::byte_at(b, 4);
-    if n < MOST_DESTINATIONS {
-        first_addresses(b, n as usize)
-    } else {
-        first_addresses(b, 63)
-    }
+    let n = buffer::byte_at(b, 4).min(MOST_DESTINATIONS);
+    first_addresses(b, n as usize)
 }

@@ -5,11 +5,8 @@ use mathlib.Core.List.{List, [], ◌∷◌, ◌++◌, append_assoc}
 use native.Mathlib.Omega.{arith}
 use lib.ListN.{length, take, take-append-drop}
 use lib.Seq.{take-add}
-use Rattle.envelope.specs.declared.Fixed.{Fixed}
-use Rattle.envelope_read.specs.declared.Read.TheVariants.{Envelope}
 use Rattle.envelope.specs.Frame.{length_of, count_of, contents_offset, fields_of, check_of}
 use Rattle.envelope.specs.Refusal.{frame_refusal}
-use Rattle.envelope_read.specs.Read.{read_frame_of}
 use Rattle.envelope_read.specs.Parts.{contents_of}
 use Rattle.envelope_read.specs.Promises.{ContentsStand}
 use Rattle.envelope.proofs.Laws.{accepted, last_byte}

@@ -1,12 +1,10 @@
 -- The theorem of the reader: reader-numbers.
-use Prim.Native.Nat.{ℕ, ◌-◌}
+use Prim.Native.Nat.{◌-◌}
 use mathlib.Core.Path.{◌≡◌, refl}
 use mathlib.Core.Bool.{Bool, true, false, not}
-use mathlib.Core.List.{List}
 use lib.Dec.{eqb, ltb}
 use lib.ListN.{length, get_or, take, drop}
 use borrow.Author.Tests.{le-ltb}
-use Rattle.buffer.specs.Bytes.{Bytes}
 use Rattle.lists.specs.Refusals.{refuse, or_else, among}
 use Rattle.lists.specs.Places.{repeats}
 use Rattle.address.specs.Address.{same_address}

@@ -5,18 +5,13 @@ ghost use Rattle.address.specs.Address.{zero_address};
 ghost use Rattle.envelope.specs.Frame.{destination_at};
 ghost use Rattle.envelope.specs.Refusal.{most_destinations};
 
-use address::{Address, Node, Port};
+use address::Address;
 use address_bytes::PACKED_SIZE;
 
 pub fn no_addresses() -> [Address; 63]
     ensures { result ≡ replicate most_destinations zero_address }
 {
-    let a = Address {
-        brigade: 0,
-        node: Node(0),
-        port: Port(0),
-    };
-    [a; 63]
+    [Address::default(); 63]
 }
 
 // The first n destinations of the part of a frame that begins with them.
@@ -25,11 +20,8 @@ pub fn read_addresses(part: &[u8], n: usize) -> [Address; 63]
     ensures { result ≡ row most_destinations zero_address (destination_at part.now) n }
 {
     let mut addresses = no_addresses();
-    let mut i = 0;
-    while i < n {
-        let a = address_bytes::packed_in(part, PACKED_SIZE * i);
-        addresses[i] = a;
-        i += 1;
+    for i in 0..n {
+        addresses[i] = address_bytes::packed_in(part, PACKED_SIZE * i);
     }
     addresses
 }

@@ -71,10 +71,8 @@ pub fn keys_in(part: &[u8], n: usize) -> [u32; 63]
     ensures { result ≡ row most_destinations 0 (key_at (destination_at part.now)) n }
 {
     let mut keys = [0u32; 63];
-    let mut i = 0;
-    while i < n {
+    for i in 0..n {
         keys[i] = address_bytes::address_key(address_bytes::packed_in(part, PACKED_SIZE * i));
-        i += 1;
     }
     keys
 }

@@ -15,9 +15,8 @@ pub fn contents_of(frame: &[u8]) -> &[u8]
     let Read::Envelope(e) = read_frame(frame) else {
         return &frame[..0];
     };
-    let n = e.length as usize;
     let start = CONTENTS_OFFSET + PACKED_SIZE * (e.count as usize);
-    let end = start + n;
+    let end = start + e.length as usize;
     &frame[start..end]
 }
 
@@ -26,16 +25,13 @@ pub fn destinations_of(frame: &[u8]) -> Destinations
     ensures { result ≡ destinations_of frame.now }
 {
     let Read::Envelope(e) = read_frame(frame) else {
-        let none = no_addresses();
         return Destinations {
             count: 0,
-            addresses: none,
+            addresses: no_addresses(),
         };
     };
-    let n = e.count;
-    let addresses = read_addresses(&frame[DESTINATIONS_OFFSET..], n as usize);
     Destinations {
-        count: n,
-        addresses,
+        count: e.count,
+        addresses: read_addresses(&frame[DESTINATIONS_OFFSET..], e.count as usize),
     }
 }

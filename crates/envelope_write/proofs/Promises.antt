@@ -1,20 +1,16 @@
 -- The theorems of demand 2 on envelopes: read-undoes-write, write-undoes-read; and the numbers that the writer gives, writer-numbers.
-use Prim.Native.Nat.{ℕ, ◌≤◌}
+use Prim.Native.Nat.{ℕ}
 use mathlib.Core.Path.{◌≡◌, refl, sym, ap, ◌∙◌}
 use mathlib.Core.List.{List, ◌++◌}
 use mathlib.Core.Bool.{Bool, true, false}
 use lib.Dec.{ltb}
 use lib.ListN.{length, take, drop}
 use lib.Seq.{take_at}
-use Rattle.buffer.specs.Bytes.{Bytes}
 use Rattle.lists.specs.Places.{element_at, repeats}
 use Rattle.lists.specs.Refusals.{refuse, or_else, among}
 use Rattle.buffer.proofs.Writing.{wrote-taken}
 use Rattle.lists.proofs.Refusals.{taken}
-use Rattle.address.specs.declared.Address.{Address}
 use Rattle.address.specs.Address.{zero_address, same_address}
-use Rattle.envelope.specs.declared.Fixed.{Fixed}
-use Rattle.envelope_read.specs.declared.Read.TheVariants.{Envelope}
 use Rattle.envelope.specs.Frame.{fields_of}
 use Rattle.envelope.specs.Refusal.{most_destinations, longest_contents, lowest_priority, outside, out_of_range, wrong_version, values_refusal_by}
 use Rattle.envelope_read.specs.Read.{read_frame_of}

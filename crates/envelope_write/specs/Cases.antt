@@ -1,5 +1,5 @@
 -- The frame of envelope/specs/Cases.antt written from its values, and values for each number.
-use Rattle.std.specs.Prelude.{ℕ, ◌≡◌, refl, true, false, List, [], ◌∷◌, ◌++◌}
+use Rattle.std.specs.Prelude.{ℕ, ◌≡◌, refl, false, List, [], ◌∷◌}
 use Rattle.lists.specs.Places.{any_below, same_at, repeat_at, repeats, element_at, joined}
 use Rattle.lists.specs.Refusals.{unless_refused}
 use Rattle.buffer.specs.declared.Written.TheVariants.{Wrote, Refused}

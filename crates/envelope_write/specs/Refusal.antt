@@ -1,5 +1,5 @@
 -- Which number refuses an envelope that is given as values, before any byte of it is written.
-use Rattle.std.specs.Prelude.{ℕ, ◌+◌, ◌*◌, ◌≤◌, ltb}
+use Rattle.std.specs.Prelude.{ℕ, ltb}
 use Rattle.lists.specs.Refusals.{refuse, or_else}
 use Rattle.address.specs.declared.Address.{Address}
 use Rattle.envelope.specs.declared.Fixed.{Fixed}

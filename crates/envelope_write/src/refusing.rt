@@ -15,13 +15,10 @@ fn any_stray(addresses: [Address; 63], n: usize) -> bool
     requires { n ≤ most_destinations }
     ensures { result ≡ any_below (stray_at (element_at zero_address addresses)) n }
 {
-    let mut i = 0;
-    while i < n {
-        let a = addresses[i];
-        if !address::in_range(a) {
+    for a in &addresses[..n] {
+        if !address::in_range(*a) {
             return true;
         }
-        i += 1;
     }
     false
 }
@@ -40,11 +37,8 @@ fn keys_of(addresses: [Address; 63], n: usize) -> [u32; 63]
     ensures { result ≡ row most_destinations 0 (key_at (element_at zero_address addresses)) n }
 {
     let mut keys = [0u32; 63];
-    let mut i = 0;
-    while i < n {
-        let a = addresses[i];
-        keys[i] = address_bytes::address_key(a);
-        i += 1;
+    for i in 0..n {
+        keys[i] = address_bytes::address_key(addresses[i]);
     }
     keys
 }

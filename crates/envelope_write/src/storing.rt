@@ -18,12 +18,9 @@ fn put_addresses(out: &mut [u8], at: usize, addresses: [Address; 63], n: usize)
     requires { (n ≤ most_destinations) × (at ≤ 5) }
     ensures { out.new ≡ sets out.old at (joined packed_bytes (element_at zero_address addresses) n) }
 {
-    let mut i = 0;
-    while i < n {
-        let a = addresses[i];
-        let b = address_bytes::packed_bytes(a);
+    for i in 0..n {
+        let b = address_bytes::packed_bytes(addresses[i]);
         buffer::put_all(out, at + PACKED_SIZE * i, &b);
-        i += 1;
     }
 }
 
@@ -31,18 +28,17 @@ fn frame_head(e: Fixed, n: usize) -> [u8; 5]
     requires { (e.count ≤ most_destinations) × (n ≤ longest_contents) }
     ensures { result ≡ frame_head e n }
 {
-    let s = address_bytes::packed_bytes(e.source);
-    let w = n * 64 + e.count as usize;
-    [s[0], s[1], s[2], (w / 256) as u8, (w % 256) as u8]
+    let [brigade, middle, last] = address_bytes::packed_bytes(e.source);
+    let [high, low] = (n as u16 * 64 + e.count as u16).to_be_bytes();
+    [brigade, middle, last, high, low]
 }
 
 fn frame_mid(e: Fixed) -> [u8; 4]
     requires { (e.priority ≤ 9) × (e.version ≤ 2) × (e.seq.0 ≤ largest_seq) }
     ensures { result ≡ frame_mid e }
 {
-    let p = e.priority * 16 + e.version;
-    let w = e.seq.0 * 2 + e.ack as u16;
-    [p, (w / 256) as u8, (w % 256) as u8, e.kind]
+    let [high, low] = (e.seq.0 * 2 + e.ack as u16).to_be_bytes();
+    [e.priority * 16 + e.version, high, low, e.kind]
 }
 
 // All bytes before the check character.

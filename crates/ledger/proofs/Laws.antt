@@ -5,16 +5,17 @@ use mathlib.Core.Bool.{Bool, beq, true, false, not, ◌&&◌, cond}
 use mathlib.Core.List.{List}
 use native.Mathlib.Omega.{arith}
 use lib.Dec.{leb, ltb, eqb}
+use lib.ListN.{length, get_or, take}
 use borrow.Author.Tests.{leb-true, ltb-true, ltb-false, eqb-true, eq-eqb, ne_eqb, le-leb, lt-leb, not-true, not-false}
 use Rattle.lists.specs.Places.{any_below, same_at, repeat_at, repeats, element_at, row}
 use Rattle.lists.proofs.Bools.{and_left, and_right, and_both, both-same}
-use Rattle.lists.proofs.Places.{any-agree, any-never, any_false, any_found, any-more, repeats-agree, row_at}
+use Rattle.lists.proofs.Places.{element-taken, any-agree, any-never, any_false, any_found, any-more, repeats-agree, row_at}
 use Rattle.address.specs.Address.{in_range}
 use Rattle.address_bytes.specs.Packed.{address_key}
 use Rattle.address_bytes.proofs.PackedLaws.{key-same, key-small}
 use Rattle.ledger.specs.declared.Leg.{Leg}
 use Rattle.ledger.specs.declared.Ledger.{Ledger}
-use Rattle.ledger.specs.Rules.{leg_at, is_open, is_open_leg, alike, ticks_obey, leg_obeys, broken_at, obeys}
+use Rattle.ledger.specs.Rules.{no_leg, leg_at, is_open, is_open_leg, alike, ticks_obey, leg_obeys, broken_at, obeys}
 use Rattle.ledger.specs.Private.{leg_key, leg_key_at, same_key}
 
 -- ---- a leg that is right
@@ -121,6 +122,11 @@ open-seen d i e = rw e (go (eqb (d i) 0) refl)
 -- ---- whether a ledger obeys its rules
 
 module _ (l : Ledger) where
+  -- the legs that the code reads: those that count are the ledger's own
+  pub leg-read : (z : Leg) (i : ℕ) → i < length (take l.count l.legs) → get_or (take l.count l.legs) i z ≡ leg_at l i
+  unfolding leg_at
+  leg-read z i h = element-taken no_leg z l.legs l.count i h
+
   pub too_many : 128 < l.count → false ≡ obeys l
   unfolding obeys
   too_many h = rw (lt-leb l.count 128 h)

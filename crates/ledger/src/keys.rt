@@ -11,29 +11,20 @@ use crate::rules::is_open;
 pub fn leg_key(g: Leg) -> u64
     ensures { result ≡ leg_key g }
 {
-    let s = g.standing;
-    if !is_open(s) {
+    if !is_open(g.standing) {
         return 0;
     }
-    let source = address_bytes::address_key(g.source) as u64;
-    let destination = address_bytes::address_key(g.destination) as u64;
-    let n = g.seq.0 as u64;
-    (source * 16777216 + destination) * 32768 + n + 1
+    let source = u64::from(address_bytes::address_key(g.source));
+    let destination = u64::from(address_bytes::address_key(g.destination));
+    (source * 16777216 + destination) * 32768 + u64::from(g.seq.0) + 1
 }
 
-// Whether the key at i is an open leg's, and that of an earlier place. No early return, so the compiler compares several keys at once.
+// Whether the key at i is an open leg's, and that of an earlier place.
 fn seen(keys: &[u64; 128], i: usize) -> bool
     requires { i < most_legs }
     ensures { result ≡ repeat_at same_key (element_at 0 keys.now) i }
 {
-    let key = keys[i];
-    let mut found = false;
-    let mut j = 0;
-    while j < i {
-        found = found | (key == keys[j]);
-        j += 1;
-    }
-    (key != 0) & found
+    (keys[i] != 0) & lists::holds(&keys[..i], keys[i])
 }
 
 // Whether two of the first n keys are those of legs alike.
@@ -41,12 +32,10 @@ pub fn repeated(keys: &[u64; 128], n: usize) -> bool
     requires { n ≤ most_legs }
     ensures { result ≡ repeats same_key (element_at 0 keys.now) n }
 {
-    let mut i = 0;
-    while i < n {
+    for i in 0..n {
         if seen(keys, i) {
             return true;
         }
-        i += 1;
     }
     false
 }

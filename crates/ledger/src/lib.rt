@@ -67,14 +67,9 @@ pub fn no_leg() -> Leg
 pub fn with_standing(g: Leg, ticks: u16, standing: Standing) -> Leg
     ensures { result ≡ with_standing g ticks standing }
 {
-    let source = g.source;
-    let destination = g.destination;
-    let seq = g.seq;
     Leg {
-        source,
-        destination,
-        seq,
         ticks,
         standing,
+        ..g
     }
 }

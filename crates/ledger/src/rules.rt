@@ -12,22 +12,14 @@ pub const MOST_LEGS: u8 = 128;
 pub fn is_open(s: Standing) -> bool
     ensures { result ≡ is_open s }
 {
-    match s {
-        Standing::Open => true,
-        Standing::Acknowledged => false,
-        Standing::Refused(_, _) => false,
-        Standing::Undeliverable => false,
-        Standing::TimedOut => false,
-        Standing::Waiting => true,
-    }
+    matches!(s, Standing::Open | Standing::Waiting)
 }
 
 // Whether the leg is open, and has this source, this destination and this sequence number.
 pub fn is_open_leg(g: Leg, source: Address, destination: Address, seq: Seq) -> bool
     ensures { result ≡ is_open_leg source destination seq g }
 {
-    let s = g.standing;
-    is_open(s)
+    is_open(g.standing)
         & address::same_address(g.source, source)
         & address::same_address(g.destination, destination)
         & (g.seq.0 == seq.0)
@@ -37,8 +29,7 @@ pub fn is_open_leg(g: Leg, source: Address, destination: Address, seq: Seq) -> b
 fn leg_obeys(g: Leg) -> bool
     ensures { result ≡ leg_obeys g }
 {
-    let s = g.standing;
-    (is_open(s) == (0 < g.ticks))
+    (is_open(g.standing) == (0 < g.ticks))
         & address::in_range(g.source)
         & address::in_range(g.destination)
         & (g.seq.0 <= LARGEST_SEQ)
@@ -53,14 +44,11 @@ pub fn obeys(l: Ledger) -> bool
     }
     let n = l.count as usize;
     let mut keys = [0u64; 128];
-    let mut i: usize = 0;
-    while i < n {
-        let g = l.legs[i];
-        if !leg_obeys(g) {
+    for (i, g) in l.legs[..n].iter().enumerate() {
+        if !leg_obeys(*g) {
             return false;
         }
-        keys[i] = leg_key(g);
-        i += 1;
+        keys[i] = leg_key(*g);
     }
     !repeated(&keys, n)
 }

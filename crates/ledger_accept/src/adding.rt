@@ -16,11 +16,7 @@ use table::{Choice, Table};
 fn is_unrouted(c: Choice) -> bool
     ensures { result ≡ is_unrouted c }
 {
-    match c {
-        Choice::Local(_) => false,
-        Choice::Out(_) => false,
-        Choice::Refused(n) => n == 52,
-    }
+    matches!(c, Choice::Refused(52))
 }
 
 // The leg for a destination; table, port and destination were found in range.
@@ -28,25 +24,21 @@ fn leg_for(e: Fixed, arrival: Port, table: Table, ticks: u16, destination: Addre
     requires { (table_in_range table ≡ true) × (call_in_range destination arrival ≡ true) }
     ensures { result ≡ leg_for e arrival table ticks destination }
 {
-    let c = table::choice_for(table, destination, arrival);
-    let from = e.source;
-    let n = e.seq;
-    if is_unrouted(c) {
-        return Leg {
-            source: from,
-            destination,
-            seq: n,
-            ticks: 0,
-            standing: Standing::Undeliverable,
-        };
-    }
-    Leg {
-        source: from,
+    let open = Leg {
+        source: e.source,
         destination,
-        seq: n,
+        seq: e.seq,
         ticks,
         standing: Standing::Open,
+    };
+    if is_unrouted(table::choice_for(table, destination, arrival)) {
+        return Leg {
+            ticks: 0,
+            standing: Standing::Undeliverable,
+            ..open
+        };
     }
+    open
 }
 
 // The ledger with a leg for each destination of the part of a frame that begins with them.
@@ -61,17 +53,12 @@ pub fn with_legs(
     requires { (l.count + e.count ≤ most_legs) × (table_in_range table ≡ true) × (arrival.0 ≤ largest_port) }
     ensures { result ≡ with_legs l e (destination_at part.now) arrival table ticks }
 {
-    let n = e.count;
     let base = l.count as usize;
     let mut m = l;
-    let mut i: u8 = 0;
-    while i < n {
-        let d = address_bytes::packed_in(part, PACKED_SIZE * (i as usize));
-        let g = leg_for(e, arrival, table, ticks, d);
-        let k = base + i as usize;
-        m.legs[k] = g;
-        i += 1;
+    for i in 0..e.count as usize {
+        let d = address_bytes::packed_in(part, PACKED_SIZE * i);
+        m.legs[base + i] = leg_for(e, arrival, table, ticks, d);
     }
-    m.count = l.count + n;
+    m.count = l.count + e.count;
     m
 }

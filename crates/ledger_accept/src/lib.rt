@@ -42,9 +42,7 @@ pub fn accept(l: Ledger, frame: &[u8], arrival: Port, table: Table, ticks: u16) 
 {
     let answer = envelope_read::read_frame(frame);
     let Read::Envelope(e) = answer else {
-        let refusal = read_refusal(answer);
-        let place = read_place(answer);
-        return none_added(l, refusal, place);
+        return none_added(l, read_refusal(answer), read_place(answer));
     };
     let refusal = call_refusal(l, e, arrival, table, ticks);
     if refusal != 0 {
@@ -53,11 +51,10 @@ pub fn accept(l: Ledger, frame: &[u8], arrival: Port, table: Table, ticks: u16) 
     if !e.ack {
         return none_added(l, 0, 0);
     }
-    let n = e.count;
     let after = with_legs(l, e, &frame[DESTINATIONS_OFFSET..], arrival, table, ticks);
     Added {
         refusal: 0,
-        added: n,
+        added: e.count,
         place: 0,
         ledger: after,
     }

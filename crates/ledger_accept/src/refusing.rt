@@ -35,8 +35,7 @@ pub fn read_place(answer: Read) -> u16
 fn is_open_from(g: Leg, source: Address, seq: Seq) -> bool
     ensures { result ≡ is_open_from source seq g }
 {
-    let s = g.standing;
-    ledger::is_open(s) & address::same_address(g.source, source) & (g.seq.0 == seq.0)
+    ledger::is_open(g.standing) & address::same_address(g.source, source) & (g.seq.0 == seq.0)
 }
 
 // Whether some leg is open and has this source and this sequence number.
@@ -44,14 +43,10 @@ fn any_open_from(l: Ledger, source: Address, seq: Seq) -> bool
     requires { l.count ≤ most_legs }
     ensures { result ≡ any_below (is_open_from_at l source seq) l.count }
 {
-    let n = l.count as usize;
-    let mut i: usize = 0;
-    while i < n {
-        let g = l.legs[i];
-        if is_open_from(g, source, seq) {
+    for g in &l.legs[..l.count as usize] {
+        if is_open_from(*g, source, seq) {
             return true;
         }
-        i += 1;
     }
     false
 }

@@ -62,11 +62,8 @@ fn answered_place(l: Ledger, by: Address, to: Address, seq: Seq) -> usize
     ensures { result ≡ answered_place l by to seq }
 {
     let n = l.count as usize;
-    let mut i: usize = n;
-    while 0 < i {
-        i -= 1;
-        let g = l.legs[i];
-        if is_open_leg(g, to, by, seq) {
+    for i in (0..n).rev() {
+        if is_open_leg(l.legs[i], to, by, seq) {
             return i;
         }
     }
@@ -90,10 +87,8 @@ pub fn answer(l: Ledger, by: Address, to: Address, seq: Seq, reply: Reply) -> Ou
             ledger: l,
         };
     }
-    let g = l.legs[k];
-    let h = answered(g, reply);
     let mut m = l;
-    m.legs[k] = h;
+    m.legs[k] = answered(l.legs[k], reply);
     Outcome {
         refusal: 0,
         ledger: m,

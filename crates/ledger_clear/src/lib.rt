@@ -12,19 +12,11 @@ fn close_up(l: Ledger, place: usize) -> Ledger
     requires { (l.count ≤ most_legs) × (place < l.count) }
     ensures { result ≡ close_up l place }
 {
-    let count = l.count - 1;
-    let last = count as usize;
+    let last = l.count - 1;
     let mut m = l;
-    let mut i: usize = place;
-    while i < last {
-        let j = i + 1;
-        let g = m.legs[j];
-        m.legs[i] = g;
-        i += 1;
-    }
-    let z = no_leg();
-    m.legs[last] = z;
-    m.count = count;
+    m.legs.copy_within(place + 1..l.count as usize, place);
+    m.legs[last as usize] = no_leg();
+    m.count = last;
     m
 }
 
@@ -44,9 +36,7 @@ pub fn clear(l: Ledger, place: usize) -> Outcome
             ledger: l,
         };
     }
-    let g = l.legs[place];
-    let s = g.standing;
-    if is_open(s) {
+    if is_open(l.legs[place].standing) {
         return Outcome {
             refusal: 65,
             ledger: l,

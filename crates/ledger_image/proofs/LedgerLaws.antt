@@ -1,18 +1,17 @@
 -- Laws of a ledger's image: what one that can be read is, what one that can't stands for, and what is written after a call.
-use Prim.Native.Nat.{ℕ, ◌≤◌, ◌<◌, min}
-use mathlib.Core.Path.{◌≡◌, sym}
+use Prim.Native.Nat.{ℕ, ◌≤◌, ◌<◌}
+use mathlib.Core.Path.{◌≡◌}
 use mathlib.Core.Bool.{true, false}
 use mathlib.Core.List.{List}
-use native.Mathlib.Omega.{arith}
-use lib.ListN.{length}
+use lib.ListN.{length, get_or, take}
 use borrow.Author.Tests.{leb-true}
 use Rattle.lists.specs.Places.{any_below, row}
 use Rattle.lists.proofs.Bools.{all_three}
-use Rattle.lists.proofs.Refusals.{taken}
+use Rattle.lists.proofs.Places.{element-taken}
 use Rattle.ledger.specs.declared.Leg.{Leg}
 use Rattle.ledger.specs.declared.Ledger.{Ledger}
-use Rattle.ledger.specs.Rules.{no_leg}
-use Rattle.ledger_image.specs.Ledger.{leg_count, leg_held, stray_leg_held, readable_ledger, ledger_in, broken_ledger, ledger_of, with_ledger, ledger_after}
+use Rattle.ledger.specs.Rules.{no_leg, leg_at}
+use Rattle.ledger_image.specs.Ledger.{leg_count, leg_held, stray_leg_held, readable_ledger, ledger_in, broken_ledger, ledger_of}
 
 -- an image that can be read
 pub record Readable (b : List ℕ) : Type 0 where
@@ -36,16 +35,7 @@ module _ (b : List ℕ) where
   unfolding ledger_of
   ledger-unread h = rw h
 
--- what is written after a call that is not refused: the first n legs, or all 128
-module _ (b : List ℕ) (refusal : ℕ) (l : Ledger) (n : ℕ) (z : refusal ≡ 0) where
-  pub few-after : n < 128 → with_ledger b l n ≡ ledger_after b refusal l n
-  unfolding ledger_after
-  few-after h =
-      let e : min n 128 ≡ n = omega arith in
-      rw e (sym (taken _ b z))
-
-  pub all_after : 128 ≤ n → with_ledger b l 128 ≡ ledger_after b refusal l n
-  unfolding ledger_after
-  all_after h =
-      let e : min n 128 ≡ 128 = omega arith in
-      rw e (sym (taken _ b z))
+-- the legs that the code reads: the first n places are the ledger's own
+pub leg-read : (l : Ledger) (z : Leg) (n i : ℕ) → i < length (take n l.legs) → get_or (take n l.legs) i z ≡ leg_at l i
+unfolding leg_at
+leg-read l z n i h = element-taken no_leg z l.legs n i h

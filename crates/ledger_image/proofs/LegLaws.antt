@@ -3,9 +3,11 @@ use Prim.Native.Nat.{ℕ, ◌/◌, ◌%◌, ◌≤◌, ◌<◌}
 use mathlib.Core.Path.{◌≡◌, refl}
 use mathlib.Core.Bool.{true, false, not}
 use mathlib.Core.List.{List, [], ◌∷◌}
+use native.Mathlib.Omega.{arith}
 use lib.Dec.{eqb}
 use borrow.Author.Tests.{eq-eqb, ne_eqb, lt-ltb, le-ltb}
 use lib.ListN.{length, get_or}
+use Rattle.buffer.specs.Bytes.{word_bytes}
 use Rattle.ledger.specs.declared.Standing.{Standing}
 use Rattle.ledger.specs.declared.Standing.TheVariants.{Open, Acknowledged, Refused, Undeliverable, TimedOut, Waiting}
 use Rattle.ledger.specs.declared.Leg.{Leg}
@@ -46,10 +48,11 @@ module _ (g : Leg) where
   unfolding leg_bytes
   length-leg = rw (three g.standing)
 
-  pub leg-made : {from to s : List ℕ} → from ≡ address_bytes g.source → to ≡ address_bytes g.destination → s ≡ standing_bytes g.standing
+  pub leg-made : {from to n t s : List ℕ} → from ≡ address_bytes g.source → to ≡ address_bytes g.destination → n ≡ word_bytes g.seq.0 → t ≡ word_bytes g.ticks
+      → s ≡ standing_bytes g.standing
       → ◌≡◌ {A = List ℕ} (get_or from 0 0 ∷ get_or from 1 0 ∷ get_or from 2 0 ∷ get_or from 3 0
       ∷ get_or to 0 0 ∷ get_or to 1 0 ∷ get_or to 2 0 ∷ get_or to 3 0
-      ∷ (g.seq.0 / 256) ∷ (g.seq.0 % 256) ∷ (g.ticks / 256) ∷ (g.ticks % 256)
+      ∷ get_or n 0 0 ∷ get_or n 1 0 ∷ get_or t 0 0 ∷ get_or t 1 0
       ∷ get_or s 0 0 ∷ get_or s 1 0 ∷ get_or s 2 0 ∷ []) (leg_bytes g)
   unfolding leg_bytes
-  leg-made p q e = rw (p, q, e, ← three g.standing)
+  leg-made p q h k e = rw (p, q, h, k, e, ← three g.standing)

@@ -12,15 +12,9 @@ fn put_legs(b: &mut [u8], l: Ledger, n: u8)
     requires { n ≤ most_legs }
     ensures { b.new ≡ with_ledger b.old l n }
 {
-    let count = [l.count];
-    buffer::put_all(b, 0, &count);
-    let m = n as usize;
-    let mut i: usize = 0;
-    while i < m {
-        let g = l.legs[i];
-        let bytes = leg_bytes(g);
-        buffer::put_all(b, LEGS_START + LEG_SIZE * i, &bytes);
-        i += 1;
+    buffer::put_all(b, 0, &[l.count]);
+    for (i, g) in l.legs[..n as usize].iter().enumerate() {
+        buffer::put_all(b, LEGS_START + LEG_SIZE * i, &leg_bytes(*g));
     }
 }
 
@@ -31,10 +25,6 @@ pub fn put_back(b: &mut [u8], refusal: u8, l: Ledger, n: u8) -> u8
     if refusal != 0 {
         return refusal;
     }
-    if n < MOST_LEGS {
-        put_legs(b, l, n);
-    } else {
-        put_legs(b, l, MOST_LEGS);
-    }
+    put_legs(b, l, n.min(MOST_LEGS));
     0
 }

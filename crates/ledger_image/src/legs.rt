@@ -43,17 +43,12 @@ pub fn leg_in(b: &[u8], at: usize) -> Leg
     requires { at + 15 ≤ length b.now }
     ensures { result ≡ leg_in b.now at }
 {
-    let source = address_bytes::address_in(b, at);
-    let destination = address_bytes::address_in(b, at + 4);
-    let n = buffer::word_at(b, at + 8);
-    let ticks = buffer::word_at(b, at + 10);
-    let standing = standing_of(b[at + 12], b[at + 13], b[at + 14]);
     Leg {
-        source,
-        destination,
-        seq: Seq(n),
-        ticks,
-        standing,
+        source: address_bytes::address_in(b, at),
+        destination: address_bytes::address_in(b, at + 4),
+        seq: Seq(buffer::word_at(b, at + 8)),
+        ticks: buffer::word_at(b, at + 10),
+        standing: standing_of(b[at + 12], b[at + 13], b[at + 14]),
     }
 }
 
@@ -85,25 +80,11 @@ pub fn leg_bytes(g: Leg) -> [u8; 15]
 {
     let from = address_bytes::address_bytes(g.source);
     let to = address_bytes::address_bytes(g.destination);
-    let n = g.seq.0;
-    let t = g.ticks;
-    let standing = g.standing;
-    let s = standing_bytes(standing);
+    let n = g.seq.0.to_be_bytes();
+    let t = g.ticks.to_be_bytes();
+    let s = standing_bytes(g.standing);
     [
-        from[0],
-        from[1],
-        from[2],
-        from[3],
-        to[0],
-        to[1],
-        to[2],
-        to[3],
-        (n / 256) as u8,
-        (n % 256) as u8,
-        (t / 256) as u8,
-        (t % 256) as u8,
-        s[0],
-        s[1],
-        s[2],
+        from[0], from[1], from[2], from[3], to[0], to[1], to[2], to[3], n[0], n[1], t[0], t[1],
+        s[0], s[1], s[2],
     ]
 }

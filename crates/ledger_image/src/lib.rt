@@ -26,12 +26,10 @@ fn any_stray(b: &[u8], n: usize) -> bool
     requires { (n ≤ most_legs) × (ledger_size ≤ length b.now) }
     ensures { result ≡ any_below (stray_leg_held b.now) n }
 {
-    let mut i = 0;
-    while i < n {
+    for i in 0..n {
         if stray_leg(b, LEGS_START + LEG_SIZE * i) {
             return true;
         }
-        i += 1;
     }
     false
 }
@@ -54,8 +52,7 @@ fn readable_ledger(b: &[u8]) -> bool
 pub fn ledger_of(b: &[u8]) -> Ledger
     ensures { result ≡ ledger_of b.now }
 {
-    let none = ledger::no_leg();
-    let mut legs = [none; 128];
+    let mut legs = [ledger::no_leg(); 128];
     if !readable_ledger(b) {
         return Ledger {
             legs,
@@ -63,12 +60,8 @@ pub fn ledger_of(b: &[u8]) -> Ledger
         };
     }
     let count = b[0];
-    let n = count as usize;
-    let mut i = 0;
-    while i < n {
-        let g = leg_in(b, LEGS_START + LEG_SIZE * i);
-        legs[i] = g;
-        i += 1;
+    for i in 0..count as usize {
+        legs[i] = leg_in(b, LEGS_START + LEG_SIZE * i);
     }
     Ledger { legs, count }
 }

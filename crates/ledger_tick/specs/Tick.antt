@@ -1,5 +1,5 @@
 -- Tick (document 01, "The ledger of legs").
-use Rattle.std.specs.Prelude.{ℕ, ◌-◌, Bool, cond, not, ◌&&◌, List, map, ◌++◌, leb, take, drop}
+use Rattle.std.specs.Prelude.{ℕ, ◌-◌, Bool, cond, not, ◌&&◌, map, ◌++◌, leb, take, drop}
 use Rattle.lists.specs.Lists.{how_many}
 use Rattle.lists.specs.Refusals.{refuse, unless_refused}
 use Rattle.ledger.specs.declared.Standing.TheVariants.{TimedOut}

@@ -27,8 +27,7 @@ pub struct Ticked {
 fn times_out(g: Leg) -> bool
     ensures { result ≡ times_out g }
 {
-    let s = g.standing;
-    if !is_open(s) {
+    if !is_open(g.standing) {
         return false;
     }
     g.ticks <= 1
@@ -38,14 +37,13 @@ fn times_out(g: Leg) -> bool
 fn ticked_leg(g: Leg) -> Leg
     ensures { result ≡ ticked_leg g }
 {
-    let s = g.standing;
-    if !is_open(s) {
+    if !is_open(g.standing) {
         return g;
     }
     if g.ticks <= 1 {
         return with_standing(g, 0, Standing::TimedOut);
     }
-    with_standing(g, g.ticks - 1, s)
+    with_standing(g, g.ticks - 1, g.standing)
 }
 
 // Takes one from the leg's count; says whether the leg timed out in this tick.
@@ -64,16 +62,10 @@ fn tick_first(legs: [Leg; 128], n: usize) -> TickedLegs
 {
     let mut m = legs;
     let mut ended: usize = 0;
-    let mut i: usize = 0;
-    while i < n {
-        let out = tick_leg(&mut m[i]);
-        ended += out as usize;
-        i += 1;
+    for leg in &mut m[..n] {
+        ended += tick_leg(leg) as usize;
     }
-    TickedLegs {
-        legs: m,
-        ended: ended,
-    }
+    TickedLegs { legs: m, ended }
 }
 
 // One tick for every leg: 60 the rules.
@@ -87,16 +79,11 @@ pub fn tick(l: Ledger) -> Ticked
             ledger: l,
         };
     }
-    let legs = l.legs;
-    let t = tick_first(legs, l.count as usize);
-    let after = t.legs;
-    let m = Ledger {
-        count: l.count,
-        legs: after,
-    };
+    let t = tick_first(l.legs, l.count as usize);
+    let legs = t.legs;
     Ticked {
         refusal: 0,
         ended: t.ended as u8,
-        ledger: m,
+        ledger: Ledger { legs, ..l },
     }
 }

@@ -1,19 +1,21 @@
 // Charts, read and written.
 ghost use Rattle.std.specs.Prelude.{◌≤◌};
 
-use crate::answers::answered;
 use address::{Address, Node, Port, Station};
 use buffer::Written;
 use chart::{BOTH_WAYS, Chart, ChartNode, Link, Links, Nodes, PLAIN};
 use chart_read::ChartRead;
-use limits_script::{byte, bytes, taken};
+use limits_script::{answered, byte, bytes, taken};
 use std::io::Result;
 
 // The number, the place, and how many nodes.
 fn report(rt: &impl Print, read: ChartRead) -> Result<()> {
-    let c = read.chart;
-    let nodes = c.nodes;
-    answered(rt, read.refusal, read.place as u64, nodes.count as u64)
+    answered(
+        rt,
+        read.refusal,
+        read.place as u64,
+        read.chart.nodes.count as u64,
+    )
 }
 
 // c length, then the chart's bytes: number, place, nodes
@@ -67,31 +69,49 @@ fn put_links(out: &mut [u8; 2000], from: usize, count: u8) -> usize
     at
 }
 
-// A chart of so many nodes with labels of a length, and so many links, from 9/0 to 9/to; its length.
-pub fn put_built(out: &mut [u8; 2000], nodes: u16, links: u16, label: u16, to: u16) -> u16 {
-    let from = put_nodes(out, byte(nodes), byte(label));
-    let at = put_links(out, from, byte(links));
-    buffer::put_all(out, at, &[3, 0, 6, 9, 0, 0, 9, 0, byte(to)]);
+// The shape of a chart that is built: so many nodes with labels of a length, and so many links, from 9/0 to 9/to.
+#[derive(Clone, Copy)]
+pub struct Shape {
+    pub nodes: u16,
+    pub links: u16,
+    pub label: u16,
+    pub to: u16,
+}
+
+// The bytes of such a chart; how many they are.
+pub fn put_built(out: &mut [u8; 2000], s: Shape) -> u16 {
+    let from = put_nodes(out, byte(s.nodes), byte(s.label));
+    let at = put_links(out, from, byte(s.links));
+    buffer::put_all(out, at, &[3, 0, 6, 9, 0, 0, 9, 0, byte(s.to)]);
     (at % 65000) as u16 + 9
 }
 
 // The chart in the first n of 2,000 bytes.
 fn read_start(chart: &[u8; 2000], n: u16) -> ChartRead {
-    let all: &[u8] = chart;
-    let long = taken(n, all);
-    chart_read::read_chart(&all[..long])
+    let long = taken(n, chart);
+    chart_read::read_chart(&chart[..long])
 }
 
 // What the built chart is read as.
-pub fn built(nodes: u16, links: u16, label: u16, to: u16) -> ChartRead {
+pub fn built(s: Shape) -> ChartRead {
     let mut chart = [b'a'; 2000];
-    let n = put_built(&mut chart, nodes, links, label, to);
+    let n = put_built(&mut chart, s);
     read_start(&chart, n)
+}
+
+// The chart of a line that begins with nodes, links and label.
+fn asked(v: &[u16; 64]) -> Shape {
+    Shape {
+        nodes: v[0],
+        links: v[1],
+        label: v[2],
+        to: 1,
+    }
 }
 
 // C nodes links label: number, place, nodes
 pub fn read_built(rt: &impl Print, v: &[u16; 64]) -> Result<()> {
-    report(rt, built(v[0], v[1], v[2], 1))
+    report(rt, built(asked(v)))
 }
 
 // What a writer answers: the number and how many bytes.
@@ -158,24 +178,6 @@ fn links(count: u16, a: Address, b: Address) -> Links {
     links_of(PLAIN, BOTH_WAYS, count, a, b)
 }
 
-// Writes a chart that asks from 9/from to 9/to into a buffer of a length.
-fn write_into(
-    rt: &impl Print,
-    nodes: Nodes,
-    links: Links,
-    from: u16,
-    to: u16,
-    room: u16,
-) -> Result<()> {
-    let c = Chart {
-        nodes,
-        links,
-        from: station(from),
-        to: station(to),
-    };
-    put_into(rt, c, room)
-}
-
 // Writes a chart into a buffer of a length.
 fn put_into(rt: &impl Print, c: Chart, room: u16) -> Result<()> {
     let mut out = [0u8; 1113];
@@ -186,57 +188,45 @@ fn put_into(rt: &impl Print, c: Chart, room: u16) -> Result<()> {
 // v nodes links label letter node a-node a-port b-node b-port to-node room: number, bytes, 0. The first node is 9/node and every other 9/20; every link is
 // from 9/a-node/a-port to 9/b-node/b-port; the question is from 9/node to 9/to-node.
 pub fn write(rt: &impl Print, v: &[u16; 64]) -> Result<()> {
-    let ns = nodes(v[0], node(v[4], v[2], v[3]));
-    write_into(
-        rt,
-        ns,
-        links(v[1], end(v[5], v[6]), end(v[7], v[8])),
-        v[4],
-        v[9],
-        v[10],
-    )
+    let c = Chart {
+        nodes: nodes(v[0], node(v[4], v[2], v[3])),
+        links: links(v[1], end(v[5], v[6]), end(v[7], v[8])),
+        from: station(v[4]),
+        to: station(v[9]),
+    };
+    put_into(rt, c, v[10])
 }
 
 // d form direction links room: number, bytes, 0. The nodes are 9/1 and 9/20; every link is from 9/1/2 to 9/20/1, of this form and direction.
 pub fn write_directed(rt: &impl Print, v: &[u16; 64]) -> Result<()> {
-    let ns = nodes(2, node(1, 0, 97));
-    write_into(
-        rt,
-        ns,
-        links_of(byte(v[0]), byte(v[1]), v[2], end(1, 2), end(20, 1)),
-        1,
-        20,
-        v[3],
-    )
-}
-
-fn least(n: u16, most: u16) -> u16 {
-    if n < most { n } else { most }
+    let c = Chart {
+        nodes: nodes(2, node(1, 0, 97)),
+        links: links_of(byte(v[0]), byte(v[1]), v[2], end(1, 2), end(20, 1)),
+        from: station(1),
+        to: station(20),
+    };
+    put_into(rt, c, v[3])
 }
 
 // The chart with other counts.
 fn counted(c: Chart, nodes: u16, links: u16) -> Chart {
-    let mut ns = c.nodes;
-    ns.count = byte(nodes);
-    let mut ls = c.links;
-    ls.count = byte(links);
-    let from = c.from;
-    let to = c.to;
-    Chart {
-        nodes: ns,
-        links: ls,
-        from,
-        to,
-    }
+    let mut d = c;
+    d.nodes.count = byte(nodes);
+    d.links.count = byte(links);
+    d
 }
 
 // The built chart as values, with the counts that were asked for.
-pub fn built_chart(nodes: u16, links: u16, label: u16, to: u16) -> Chart {
-    let read = built(least(nodes, 16), least(links, 48), label, to);
-    counted(read.chart, nodes, links)
+pub fn built_chart(s: Shape) -> Chart {
+    let read = built(Shape {
+        nodes: s.nodes.min(16),
+        links: s.links.min(48),
+        ..s
+    });
+    counted(read.chart, s.nodes, s.links)
 }
 
 // V nodes links label room: number, bytes, 0
 pub fn write_built(rt: &impl Print, v: &[u16; 64]) -> Result<()> {
-    put_into(rt, built_chart(v[0], v[1], v[2], 1), v[3])
+    put_into(rt, built_chart(asked(v)), v[3])
 }

@@ -1,9 +1,8 @@
 // Messages passed over a chart of C, by tables that send everything out by one port.
-use crate::answers::answered;
-use crate::charts::{put_built, station};
+use crate::charts::{Shape, put_built, station};
 use address::{Address, Node, Port};
 use class::{Message, Passed, Sent};
-use limits_script::{byte, taken};
+use limits_script::{answered, byte, taken};
 use std::io::Result;
 use table::{Entry, Table, Target};
 
@@ -48,11 +47,24 @@ fn to(node: u16, port: u16) -> Address {
 
 // What a message comes to over the chart in the first n of 2,000 bytes, by so many bytes of tables.
 fn passed(chart: &[u8; 2000], n: u16, tables: &[u8; 3200], size: u16, v: &[u16; 64]) -> Passed {
-    let all: &[u8] = chart;
-    let long = taken(n, all);
-    let images: &[u8] = tables;
-    let many = taken(size, images);
-    class::pass(&all[..long], &images[..many], station(v[7]), to(v[8], v[9]))
+    let long = taken(n, chart);
+    let many = taken(size, tables);
+    class::pass(
+        &chart[..long],
+        &tables[..many],
+        station(v[7]),
+        to(v[8], v[9]),
+    )
+}
+
+// The chart of a line that begins with nodes and links.
+fn asked(v: &[u16; 64]) -> Shape {
+    Shape {
+        nodes: v[0],
+        links: v[1],
+        label: 0,
+        to: 0,
+    }
 }
 
 // The number, how many nodes it passed, and how it ended.
@@ -63,7 +75,7 @@ fn report(rt: &impl Print, p: Passed) -> Result<()> {
 // p nodes links bytes port place entries own from to-node to-port: number, nodes on the way, ending
 pub fn pass(rt: &impl Print, v: &[u16; 64]) -> Result<()> {
     let mut chart = [b'a'; 2000];
-    let n = put_built(&mut chart, v[0], v[1], 0, 0);
+    let n = put_built(&mut chart, asked(v));
     let mut tables = sending(v[3]);
     put_at(&mut tables, v[4], table_of(v[6], v[5], v[3]));
     report(rt, passed(&chart, n, &tables, v[2], v))
@@ -71,9 +83,8 @@ pub fn pass(rt: &impl Print, v: &[u16; 64]) -> Result<()> {
 
 // A message a step on, likewise.
 fn stepped(chart: &[u8; 2000], n: u16, tables: &[u8; 3200], node: u16, m: Message) -> Sent {
-    let all: &[u8] = chart;
-    let long = taken(n, all);
-    class::step(&all[..long], tables, to(node, 1), m)
+    let long = taken(n, chart);
+    class::step(&chart[..long], tables, to(node, 1), m)
 }
 
 // The number, and the message's place and ending.
@@ -85,7 +96,7 @@ fn report_step(rt: &impl Print, s: Sent) -> Result<()> {
 // q nodes links port place arrival met ending to-node: number, place, ending after it
 pub fn step(rt: &impl Print, v: &[u16; 64]) -> Result<()> {
     let mut chart = [b'a'; 2000];
-    let n = put_built(&mut chart, v[0], v[1], 0, 0);
+    let n = put_built(&mut chart, asked(v));
     let tables = sending(v[2]);
     let m = Message {
         at: byte(v[3]),

@@ -3,7 +3,6 @@
 // what the documents say; stdin explains the letters.
 #![tactic(auto)]
 
-mod answers;
 mod charts;
 mod classes;
 mod mends;
@@ -12,7 +11,7 @@ mod tables;
 mod traces;
 
 use input_read::read_full;
-use limits_script::{line_end, numbers};
+use limits_script::answer_all;
 use std::io::Result;
 
 // Answers a line of numbers where its letter is a call's.
@@ -36,28 +35,9 @@ fn answer(rt: &impl Print, letter: u8, v: &[u16; 64]) -> Result<()> {
     }
 }
 
-// One line: printed, and answered where its letter is a call's.
-fn answer_line(rt: &impl Print, line: &[u8]) -> Result<()> {
-    rt.write_all(line)?;
-    let v = numbers(line);
-    answer(rt, buffer::byte_at(line, 0), &v)?;
-    println!(rt)
-}
-
-// Each line in turn.
-fn answer_all(rt: &impl Print, text: &[u8]) -> Result<()> {
-    let mut at = 0;
-    while at < text.len() {
-        let end = line_end(text, at);
-        answer_line(rt, &text[at..end])?;
-        at = end + 1;
-    }
-    Ok(())
-}
-
 // What stands past the first 65,536 bytes is not read.
 fn main(rt: HostRuntime) -> Result<()> {
     let mut input = [0u8; 65536];
     let n = read_full(&mut rt.stdin(), &mut input)?;
-    answer_all(&rt, &input[..n])
+    answer_all(&rt, &input[..n], |letter, v| answer(&rt, letter, v))
 }

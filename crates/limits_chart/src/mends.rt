@@ -1,8 +1,7 @@
 // Damaged charts, mended.
-use crate::answers::answered;
-use crate::charts::put_built;
+use crate::charts::{Shape, put_built};
 use chart_mend::Mended;
-use limits_script::{bytes, taken};
+use limits_script::{answered, bytes, taken};
 use std::io::Result;
 
 // The number, how many bytes are kept, and how many listed.
@@ -21,37 +20,31 @@ pub fn mend(rt: &impl Print, v: &[u16; 64]) -> Result<()> {
 
 // The chart in the first n of 2,000 bytes, before zeros.
 fn put_start(input: &mut [u8; 65536], chart: &[u8; 2000], n: u16) {
-    let all: &[u8] = chart;
-    let long = taken(n, all);
-    buffer::put_all(input, 0, &all[..long]);
+    let long = taken(n, chart);
+    buffer::put_all(input, 0, &chart[..long]);
 }
 
-// The start of the input mended, into buffers of a length.
-fn mend_in(
-    rt: &impl Print,
-    input: &[u8; 65536],
-    n: u16,
-    zeros: u16,
-    room: u16,
-    list_room: u16,
-) -> Result<()> {
-    let all: &[u8] = input;
-    let long = all.len().min(n as usize + zeros as usize);
+// An input mended, into buffers of a length.
+fn mend_in(rt: &impl Print, input: &[u8], room: u16, list_room: u16) -> Result<()> {
     let mut out = [0u8; 65536];
     let m = taken(room, &out);
     let mut list = [0u8; 65536];
     let k = taken(list_room, &list);
-    report(
-        rt,
-        chart_mend::mend(&all[..long], &mut out[..m], &mut list[..k]),
-    )
+    report(rt, chart_mend::mend(input, &mut out[..m], &mut list[..k]))
 }
 
 // M nodes links label zeros room list: number, bytes kept, bytes listed
 pub fn mend_built(rt: &impl Print, v: &[u16; 64]) -> Result<()> {
     let mut chart = [b'a'; 2000];
-    let n = put_built(&mut chart, v[0], v[1], v[2], 0);
+    let built = Shape {
+        nodes: v[0],
+        links: v[1],
+        label: v[2],
+        to: 0,
+    };
+    let n = put_built(&mut chart, built);
     let mut input = [0u8; 65536];
     put_start(&mut input, &chart, n);
-    mend_in(rt, &input, n, v[3], v[4], v[5])
+    let long = input.len().min(n as usize + v[3] as usize);
+    mend_in(rt, &input[..long], v[4], v[5])
 }

@@ -1,23 +1,13 @@
 // The printed sheet: of bytes that are no chart, and of a chart with a thousand routes.
-use crate::answers::answered;
 use buffer::Written;
-use limits_script::taken;
+use limits_script::{answered, taken};
 use std::io::Result;
-
-// So many places before the end.
-fn before(n: usize, places: usize) -> usize {
-    if n < places {
-        return 0;
-    }
-    n - places
-}
 
 // The number, the bytes written, and the fourth byte from their end.
 fn report(rt: &impl Print, answer: Written, text: &[u8; 65536]) -> Result<()> {
-    let all: &[u8] = text;
     match answer {
         Written::Wrote(n) => {
-            let last = buffer::byte_at(all, before(n, 4));
+            let last = buffer::byte_at(text, n.saturating_sub(4));
             answered(rt, 0, n as u64, last as u64)
         }
         Written::Refused(k) => answered(rt, k, 0, 0),
@@ -72,9 +62,8 @@ fn size(more: u16) -> u16 {
 
 // The sheet of the first bytes of a chart.
 fn sheet_of(rt: &impl Print, chart: &[u8; 500], size: u16, room: u16) -> Result<()> {
-    let all: &[u8] = chart;
-    let n = taken(size, all);
-    sheet_in(rt, &all[..n], room)
+    let n = taken(size, chart);
+    sheet_in(rt, &chart[..n], room)
 }
 
 // S more room: number, bytes, the fourth from the end. The chart has 1,000 routes, or one more.

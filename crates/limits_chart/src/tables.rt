@@ -1,6 +1,6 @@
 // The routing table of a node, written from a chart.
-use crate::answers::answered;
-use crate::charts::{built, station};
+use crate::charts::{Shape, built, station};
+use limits_script::answered;
 use std::io::Result;
 use table::{MOST_ENTRIES, Table};
 use table_write::TableWritten;
@@ -8,14 +8,10 @@ use table_write::TableWritten;
 // The out port of the last entry.
 fn last_port(t: Table) -> u64 {
     let n = t.count as usize;
-    if n == 0 {
+    if (n == 0) | (MOST_ENTRIES < t.count) {
         return 0;
     }
-    if (MOST_ENTRIES as usize) < n {
-        return 0;
-    }
-    let e = t.entries[n - 1];
-    e.port.0 as u64
+    t.entries[n - 1].port.0 as u64
 }
 
 // The number, how many entries, and the last one's port.
@@ -26,10 +22,14 @@ fn report(rt: &impl Print, written: TableWritten) -> Result<()> {
 
 // T nodes links node: number, entries, the last entry's port
 pub fn write(rt: &impl Print, v: &[u16; 64]) -> Result<()> {
-    let read = built(v[0], v[1], 0, 1);
+    let read = built(Shape {
+        nodes: v[0],
+        links: v[1],
+        label: 0,
+        to: 1,
+    });
     if read.refusal != 0 {
         return answered(rt, read.refusal, 0, 0);
     }
-    let c = read.chart;
-    report(rt, table_write::write_table(c, station(v[2])))
+    report(rt, table_write::write_table(read.chart, station(v[2])))
 }

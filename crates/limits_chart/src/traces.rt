@@ -1,18 +1,13 @@
 // The routes of a chart: a ring of nodes.
-use crate::answers::answered;
-use crate::charts::built_chart;
+use crate::charts::{Shape, built_chart};
 use chart::Chart;
-use limits_script::{byte, taken};
+use limits_script::{answered, byte, taken};
 use route_search::Traced;
 use std::io::Result;
 
-fn number(b: u8) -> u64 {
-    b as u64
-}
-
 // The number, the route's length, and the buffer's first byte.
 fn report(rt: &impl Print, answer: Traced, buf: &[u8; 64]) -> Result<()> {
-    let first = number(buf[0]);
+    let first = buf[0] as u64;
     match answer {
         Traced::Route(n) => answered(rt, 0, n as u64, first),
         Traced::Refused(k) => answered(rt, k, 0, first),
@@ -21,7 +16,12 @@ fn report(rt: &impl Print, answer: Traced, buf: &[u8; 64]) -> Result<()> {
 
 // The chart of a line.
 fn asked_chart(v: &[u16; 64]) -> Chart {
-    built_chart(v[0], v[1], 0, v[2])
+    built_chart(Shape {
+        nodes: v[0],
+        links: v[1],
+        label: 0,
+        to: v[2],
+    })
 }
 
 // The first route, in a buffer of 99s of which so many bytes are lent.
@@ -40,8 +40,8 @@ pub fn first(rt: &impl Print, v: &[u16; 64]) -> Result<()> {
 // The bytes begin, begin + 1 and so on.
 fn counting(begin: u16) -> [u8; 64] {
     let mut all = [0u8; 64];
-    for i in 0..64usize {
-        all[i] = byte(begin % 256 + i as u16);
+    for (i, b) in all.iter_mut().enumerate() {
+        *b = byte(begin % 256 + i as u16);
     }
     all
 }

@@ -1,11 +1,12 @@
 -- A turn of each loop over a line: what the byte at place i decides, and what is left after it.
-use Prim.Native.Nat.{ℕ, ◌+◌, ◌%◌, ◌≤◌, ◌<◌}
-use mathlib.Core.Path.{◌≡◌}
+use Prim.Native.Nat.{ℕ, ◌+◌, ◌%◌, ◌≤◌, ◌<◌, max}
+use mathlib.Core.Path.{◌≡◌, sym, ◌∙◌}
 use mathlib.Core.Bool.{true, false}
 use mathlib.Core.List.{List}
 use native.Mathlib.Nat.{add-zero}
 use native.Mathlib.Numerals.{add-one}
 use native.Mathlib.Omega.{arith}
+use native.Mathlib.Decide.{dec_le}
 use borrow.Author.Tests.{eq-eqb, ne_eqb}
 use lib.ListN.{length, get_or, set, drop, drop_of_length-le}
 use lib.Seq.{drop-cons}
@@ -26,6 +27,15 @@ module _ (text : List ℕ) (i : ℕ) where
     pub end_later : (get_or text i 0 ≡ 10 → ⊥) → line_end text i ≡ line_end text (i + 1)
     unfolding line_end before_feed
     end_later e = rw (drop-cons text i 0, ne_eqb (get_or text i 0) 10 e, add-one) (omega arith)
+
+-- no line feed from a place on: the line ends with the text, or where it begins past it
+pub end-max : (text : List ℕ) (at i : ℕ) → (at ≤ length text → i ≤ length text) → length text ≤ i → line_end text at ≡ line_end text i
+    → max at (length text) ≡ line_end text at
+end-max text at i within past same = go (dec_le (length text) at)
+  where
+    go : Dec (length text ≤ at) → max at (length text) ≡ line_end text at
+    go (yes h) = let e : max at (length text) ≡ at = omega arith in e ∙ sym (end-past text at h)
+    go (no h) = let e : max at (length text) ≡ i = omega (arith, within) in e ∙ sym (same ∙ end-past text i past)
 
 -- ---- the numbers of a line
 

@@ -1,10 +1,10 @@
 // Frames, written and read.
-use crate::answers::{answered, value};
+use crate::answers::value;
 use address::{Address, Node, Port, Seq};
 use buffer::Written;
 use envelope::Fixed;
 use envelope_read::{Destinations, Read};
-use limits_script::{byte, bytes, taken};
+use limits_script::{answered, byte, bytes, taken};
 use std::io::Result;
 
 pub fn at(brigade: u16, node: u16, port: u16) -> Address {
@@ -23,17 +23,16 @@ pub fn address(v: &[u16; 64], place: usize) -> Address {
 // 63 destinations, all different: 9/20/1, 9/21/1 and so on.
 fn places() -> [Address; 63] {
     let mut all = [at(9, 20, 1); 63];
-    for i in 0..63usize {
-        all[i] = at(9, 20 + i as u16, 1);
+    for (i, a) in all.iter_mut().enumerate() {
+        *a = at(9, 20 + i as u16, 1);
     }
     all
 }
 
 // The fixed fields of a `w` line.
 fn fixed(v: &[u16; 64]) -> Fixed {
-    let source = address(v, 5);
     Fixed {
-        source,
+        source: address(v, 5),
         count: byte(v[0]),
         length: 0,
         priority: byte(v[2]),
@@ -98,8 +97,7 @@ fn print_fields(rt: &impl Print, e: Fixed) -> Result<()> {
 
 // The last of the destinations.
 fn last(to: Destinations) -> Address {
-    let all = to.addresses;
-    all[(to.count as usize + 62) % 63]
+    to.addresses[(to.count as usize + 62) % 63]
 }
 
 // What a frame is read as: the number, how many destinations, how many bytes of contents; of an envelope also its fixed fields and its last destination, of a

@@ -1,5 +1,5 @@
 // The ledger of legs. Each call's numbers begin with a ledger: legs standing ticks sequence step.
-use crate::answers::{answered, value};
+use crate::answers::value;
 use crate::frames::{address, at, written};
 use crate::tables::{entry, table};
 use address::{Address, Port, Seq};
@@ -7,7 +7,7 @@ use ledger::{Ledger, Leg, Outcome, Standing};
 use ledger_accept::Added;
 use ledger_answer::Reply;
 use ledger_tick::Ticked;
-use limits_script::{byte, taken};
+use limits_script::{answered, byte, taken};
 use std::io::Result;
 use table::{Table, Target};
 
@@ -37,54 +37,48 @@ fn standing_number(s: Standing) -> u64 {
 
 // The sequence number that many steps on.
 fn later(s: Seq, step: u16) -> Seq {
-    Seq(((s.0 as u32 + step as u32) % 65536) as u16)
+    Seq(s.0.wrapping_add(step))
 }
 
 // A row of legs: each sequence number is `step` above the one before.
 fn row(first: Leg, step: u16) -> [Leg; 128] {
     let mut leg = first;
     let mut all = [leg; 128];
-    for i in 0..128usize {
-        all[i] = leg;
-        let s = later(leg.seq, step);
-        leg.seq = s;
+    for place in &mut all {
+        *place = leg;
+        leg.seq = later(leg.seq, step);
     }
     all
 }
 
 // The first leg of a call's first five numbers.
 fn leg(v: &[u16; 64], source: Address, destination: Address) -> Leg {
-    let s = standing(v[1]);
     Leg {
         source,
         destination,
         seq: Seq(v[3]),
         ticks: v[2],
-        standing: s,
+        standing: standing(v[1]),
     }
-}
-
-// A ledger of these legs.
-fn held(count: u8, legs: [Leg; 128]) -> Ledger {
-    Ledger { count, legs }
 }
 
 // The ledger of a call's first five numbers, its legs between two addresses.
 fn ledger(v: &[u16; 64], source: Address, destination: Address) -> Ledger {
-    held(byte(v[0]), row(leg(v, source, destination), v[4]))
+    let legs = row(leg(v, source, destination), v[4]);
+    Ledger {
+        count: byte(v[0]),
+        legs,
+    }
 }
 
 // The leg at a place of 128.
 fn leg_at(l: Ledger, place: usize) -> Leg {
-    let legs = l.legs;
-    legs[place % 128]
+    l.legs[place % 128]
 }
 
 // The number of the standing of a leg.
 fn standing_at(l: Ledger, place: usize) -> u64 {
-    let leg = leg_at(l, place);
-    let s = leg.standing;
-    standing_number(s)
+    standing_number(leg_at(l, place).standing)
 }
 
 // The standings of the legs from a place up to another.
@@ -95,17 +89,12 @@ fn print_standings(rt: &impl Print, l: Ledger, from: u8, to: u8) -> Result<()> {
     Ok(())
 }
 
-// Where the legs that were added begin.
-fn stood(count: u8, added: u8) -> u8 {
-    if count < added { 0 } else { count - added }
-}
-
 // The number, how many legs were added, the last leg's ticks, and the standing of each that was added.
 fn report(rt: &impl Print, after: Added) -> Result<()> {
     let l = after.ledger;
     let last = leg_at(l, 127 + l.count as usize);
     answered(rt, after.refusal, after.added as u64, last.ticks as u64)?;
-    print_standings(rt, l, stood(l.count, after.added), l.count)
+    print_standings(rt, l, l.count.saturating_sub(after.added), l.count)
 }
 
 // Accepts the frame in the first n of 2,000 bytes.
@@ -185,8 +174,12 @@ fn asked_reply(v: &[u16; 64]) -> Reply {
 fn report_answer(rt: &impl Print, after: Outcome) -> Result<()> {
     let l = after.ledger;
     let first = leg_at(l, 0);
-    let s = first.standing;
-    answered(rt, after.refusal, standing_number(s), first.ticks as u64)
+    answered(
+        rt,
+        after.refusal,
+        standing_number(first.standing),
+        first.ticks as u64,
+    )
 }
 
 // n ledger by-node by-port to-node to-port sequence nak set code: number, the first leg's standing, its ticks after it. Its legs are from 9/1/5 to 9/20/1.

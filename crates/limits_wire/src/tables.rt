@@ -1,8 +1,7 @@
 // The next route.
-use crate::answers::answered;
 use crate::frames::at;
 use address::{Node, Port};
-use limits_script::byte;
+use limits_script::{answered, byte};
 use std::io::Result;
 use table::{Choice, Entry, Table, Target};
 

@@ -35,19 +35,13 @@ pub and_both : {x y : Bool} → x ≡ true → y ≡ true → (x && y) ≡ true
 and_both p q = rw (p, q)
 
 -- What a test of a call's result tells of the call's definition: r is the result, s what the callee ensures of it.
-pub told-no : {r s : Bool} → r ≡ s → r ≡ false → s ≡ false
-told-no e h = sym e ∙ h
-
-pub told-yes : {r s : Bool} → r ≡ s → r ≡ true → s ≡ true
-told-yes e h = sym e ∙ h
-
 pub told-true : {r s : Bool} → r ≡ s → r ≡ true → s ≡ true
 told-true e h = sym e ∙ h
 
 pub told-false : {r s : Bool} → r ≡ s → r ≡ false → s ≡ false
 told-false e h = sym e ∙ h
 
-pub ruleset told = (told-no, told-yes, told-true, told-false)
+pub ruleset told = (told-true, told-false)
 
 pub and-no-left : {x : Bool} (y : Bool) → x ≡ false → (x && y) ≡ false
 and-no-left y p = rw p

@@ -9,7 +9,10 @@ use native.Mathlib.Numerals.{add-one}
 use native.Mathlib.Nat.{zero-add, add-zero, add-suc, mul-zero, mul-suc, sub-zero}
 use native.Mathlib.Decide.{dec_lt}
 use borrow.Author.Tests.{lt-ltb, le-ltb}
-use lib.ListN.{length, get_or, set, replicate, length-append, length-replicate, replicate-append-replicate, get_or-append}
+use lib.ListN.{length, get_or, set, take, replicate, length-append, length-replicate, replicate-append-replicate, get_or-append}
+use Rattle.std.specs.List.{list_any}
+use Rattle.std.proofs.lemmas.List.{length-take, get_or-take}
+use Rattle.std.proofs.lemmas.List.Folds.{list_any_more}
 use lib.Seq.{get_or_at, get_or-append-add, set_at}
 use Rattle.lists.specs.Places.{any_below, first_from, first_below, same_at, repeat_at, repeats, element_at, firsts, row, joined, up_to}
 use Rattle.lists.proofs.Bools.{or_right, or-none, no_true}
@@ -65,6 +68,15 @@ pub any-nowhere : (p : ℕ → Bool) (n : ℕ) → ((i : ℕ) → i < n → p i 
 unfolding any_below
 any-nowhere p zero h = refl
 any-nowhere p (suc n) h = rw (any-nowhere p n (λ i l. h i (omega arith)), h n (omega arith))
+
+-- a test of the elements of a list's first n places
+pub any-taken : {A : Type 0} (p : A → Bool) (z : A) (l : List A) (n : ℕ) → n ≤ length l → list_any p (take n l) ≡ any_below (λ i. p (element_at z l i)) n
+unfolding any_below element_at
+any-taken p z l zero h = refl
+any-taken p z l (suc n) h =
+    ap (λ (m : ℕ). list_any p (take m l)) (sym (add-one n))
+    ∙ list_any_more p l n z (omega arith)
+    ∙ rw (any-taken p z l n (omega arith)) refl
 
 -- two tests that agree below n
 pub any-agree : (p p' : ℕ → Bool) (n : ℕ) → ((i : ℕ) → i < n → p i ≡ p' i) → any_below p n ≡ any_below p' n
@@ -235,6 +247,14 @@ module _ {A : Type 0} where
   element-own z z' [] i h = absurd (omega arith)
   element-own z z' (a ∷ l) zero h = refl
   element-own z z' (a ∷ l) (suc i) h = element-own z z' l i (omega arith)
+
+  -- so has one of its first n places
+  pub element-taken : (z z' : A) (l : List A) (n i : ℕ) → i < length (take n l) → get_or (take n l) i z' ≡ element_at z l i
+  element-taken z z' l n i h = go (dec_lt i n)
+    where
+      go : Dec (i < n) → get_or (take n l) i z' ≡ element_at z l i
+      go (yes q) = get_or-take n l i z' q ∙ element-own z z' l i (omega (arith, h, length-take n l))
+      go (no q) = absurd (omega (arith, h, length-take n l))
 
   pub length-firsts : (d : ℕ → A) (n : ℕ) → length (firsts d n) ≡ n
   unfolding firsts

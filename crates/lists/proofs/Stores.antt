@@ -1,12 +1,12 @@
 -- Runs of stores, `lib.Seq.sets`: one after another, past the end, and what then stands where.
 use Prim.Native.Nat.{ℕ, zero, suc, ◌+◌, ◌*◌, ◌-◌, ◌<◌, ◌≤◌}
 use mathlib.Core.Path.{◌≡◌, refl, sym, ap, ◌∙◌}
-use mathlib.Core.List.{List, [], ◌∷◌, ◌++◌}
+use mathlib.Core.List.{List, [], ◌∷◌, ◌++◌, append_assoc}
 use native.Mathlib.Omega.{arith}
 use native.Mathlib.Numerals.{add-one}
 use native.Mathlib.Nat.{zero-add, add-zero}
 use lib.ListN.{length, get_or, take, drop, set, replicate, length-set, length-replicate, replicate-append-replicate, take-append-drop}
-use lib.Seq.{sets, sets-eq, length-sets, set_out, take-suc, take_at, length-take-le, get_or-set_same, get_or-set_other}
+use lib.Seq.{drop-drop, sets, sets-eq, length-sets, set_out, take-suc, take_at, length-take-le, get_or-set_same, get_or-set_other}
 use Rattle.lists.specs.Places.{firsts, joined, up_to}
 use Rattle.lists.proofs.Places.{length-firsts, length-joined, joined-next, joined-used}
 
@@ -33,6 +33,12 @@ module _ {A : Type 0} where
       sym (ap (sets l at) (sym (take-append-drop n vs))
       ∙ sym (sets-append (take n vs) l at (drop n vs) (at + n) (rw e refl))
       ∙ sets-past (drop n vs) (sets l at (take n vs)) (at + n) (rw length-sets k))
+
+  -- a part of a list, with other values in its place
+  pub sets-part : (l vs new : List A) (at k : ℕ) → new ≡ vs → length vs ≡ k → at + k ≤ length l → take at l ++ (new ++ drop k (drop at l)) ≡ sets l at vs
+  sets-part l vs new at k e n h =
+      let past : drop k (drop at l) ≡ drop (at + length vs) l = drop-drop k at l ∙ ap (λ (m : ℕ). drop (at + m) l) (sym n) in
+      rw (e, past) (sym (sets-eq vs l at (omega arith) ∙ append_assoc (take at l) vs (drop (at + length vs) l)))
 
   -- what was stored from the front stands there
   pub sets-front : (l vs : List A) → length vs ≤ length l → sets l 0 vs ≡ vs ++ drop (length vs) l

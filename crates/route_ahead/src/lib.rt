@@ -20,15 +20,15 @@ pub fn ahead(t: &[u64; TABLE_SIZE], gone: u64, links: u64) -> u64
     let mut live = 0u64;
     let mut left = MOST_NODES;
     while (front != 0) & (0 < left) {
-        let n = u16::trailing_zeros(front);
-        live = live | t[n as usize];
+        let n = front.trailing_zeros() as usize;
+        live |= t[n];
         if links & live == links {
             return links;
         }
-        let from = (t[FROM_ROW + n as usize] % 65536) as u16;
+        let from = (t[FROM_ROW + n] % 65536) as u16;
         let new = from ^ (from & seen);
         front = (front ^ (1u16 << n)) | new;
-        seen = seen | new;
+        seen |= new;
         left -= 1;
     }
     links & live

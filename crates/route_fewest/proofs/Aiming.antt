@@ -1,17 +1,17 @@
 -- The table of a net has its routes whichever node is asked for, as only one of its words tells that node; and the first links to each node.
 use mathlib.Core.Path.{◌≡◌, refl, sym, ◌∙◌, ap, subst}
-use mathlib.Core.Bool.{Bool, true, false, ◌&&◌}
+use mathlib.Core.Bool.{true}
 use mathlib.Core.Option.{some}
 use mathlib.Core.List.{List, ◌++◌}
 use Prim.Native.Nat.{ℕ, zero, suc, ◌+◌, ◌-◌, ◌<◌, ◌≤◌, min}
 use native.Mathlib.Omega.{arith}
 use native.Mathlib.Numerals.{add-one}
-use borrow.Author.Tests.{eqb-false, ltb-false, lt-ltb, le-ltb}
-use lib.Dec.{eqb, ltb}
+use borrow.Author.Tests.{eqb-false, lt-ltb, le-ltb}
+use lib.Dec.{eqb}
 use lib.ListN.{get_or, set, length-set, replicate, replicate-append-replicate}
 use lib.Seq.{get_or-set_same, get_or-set_other}
 use Rattle.lists.specs.Places.{firsts, row}
-use Rattle.lists.proofs.Bools.{no-not, both_ways}
+use Rattle.lists.proofs.Bools.{no-not}
 use Rattle.lists.proofs.Places.{row-none, row_next, row-agree}
 use Rattle.route.specs.Route.{Sound}
 use Rattle.route.proofs.SameNet.{Alike, routes-agree}
@@ -98,34 +98,22 @@ first-links-none ends ways links nodes from h =
     ∙ row_same 48 16 (min nodes 16) (omega arith))
 
 -- those to the first nodes are filled in
-pub record Filled (t : List ℕ) (nodes from : ℕ) (first : List ℕ) (to : ℕ) : Type 0 where
-  pub below : to ≤ nodes
-  pub room : to ≤ 16
-  pub is : first ≡ row 16 48 (reached t from) to
+abbrev pub Filled : List ℕ → ℕ → List ℕ → ℕ → Type 0
+Filled t from first to = first ≡ row 16 48 (reached t from) to
 
-pub fill-starts : (t : List ℕ) (nodes from : ℕ) → Filled t nodes from (replicate 16 48) 0
-fill-starts t nodes from = record { below = omega arith; room = omega arith; is = sym (row-none 16 48 (reached t from)) }
+pub fill-starts : (t : List ℕ) (from : ℕ) → Filled t from (replicate 16 48) 0
+fill-starts t from = sym (row-none 16 48 (reached t from))
 
-module _ (t : List ℕ) (nodes from : ℕ) (first : List ℕ) (to : ℕ) (F : Filled t nodes from first to) where
-  pub fill-turns : to < nodes → to < 16 → (r : ℕ) → r ≡ link_place (first_link (toward t to) from) → Filled t nodes from (set first to r) (to + 1)
+module _ (t : List ℕ) (from : ℕ) (first : List ℕ) (to : ℕ) (F : Filled t from first to) where
+  pub fill-turns : to < 16 → (r : ℕ) → r ≡ link_place (first_link (toward t to) from) → Filled t from (set first to r) (to + 1)
   unfolding reached
-  fill-turns h l r e =
-      record {
-        below = omega arith;
-        room = omega arith;
-        is = rw (F.is, e) (row_next 16 48 (reached t from) to l);
-      }
+  fill-turns l r e = rw (F, e) (row_next 16 48 (reached t from) to l)
 
-  pub fill-ends : from < 16 → (ends : List (List ℕ)) (ways : List ℕ) (links : ℕ) → ByNode (net ends ways links 0) t → (ltb to nodes && ltb to 16) ≡ false
+  pub fill-ends : from < 16 → (ends : List (List ℕ)) (ways : List ℕ) (links nodes : ℕ) → ByNode (net ends ways links 0) t → to ≡ min nodes 16
       → first ≡ first_links_over ends ways links nodes from
   unfolding reached first_links_over first_link_over
-  fill-ends l ends ways links T e =
-      F.is
-      ∙ ap (row 16 48 (reached t from)) (all (ltb to nodes) refl (ltb to 16) refl e)
+  fill-ends l ends ways links nodes T e =
+      F
+      ∙ ap (row 16 48 (reached t from)) e
       ∙ row-agree 16 48 (reached t from) (λ to. link_place (first_link_over ends ways links from to)) (min nodes 16)
       (λ to h. rw (lt-ltb from 16 l) (ap link_place (first-same ends ways links t T to from l)))
-    where
-      all : (x : Bool) → ltb to nodes ≡ x → (y : Bool) → ltb to 16 ≡ y → (x && y) ≡ false → to ≡ min nodes 16
-      all true p true q k = absurd (both_ways refl k)
-      all true p false q k = let a = ltb-false to 16 q in let b = F.room in let c = F.below in omega arith
-      all false p y q k = let a = ltb-false to nodes p in let b = F.room in let c = F.below in omega arith

@@ -29,10 +29,10 @@ fn spread_of(t: &[u64; TABLE_SIZE], nodes: u16) -> Spread
     let mut from = 0u16;
     let mut rest = nodes;
     while rest != 0 {
-        let n = u16::trailing_zeros(rest);
-        links = links | t[n as usize];
-        from = from | (t[FROM_ROW + n as usize] % 65536) as u16;
-        rest = rest ^ (1u16 << n);
+        let n = rest.trailing_zeros() as usize;
+        links |= t[n];
+        from |= (t[FROM_ROW + n] % 65536) as u16;
+        rest ^= 1u16 << n;
     }
     Spread { links, nodes: from }
 }
@@ -55,10 +55,10 @@ fn first_link(t: &[u64; TABLE_SIZE], from: usize, to: usize) -> u8
         let s = spread_of(t, front);
         let nearer = out & s.links;
         if nearer != 0 {
-            return u64::trailing_zeros(nearer) as u8;
+            return nearer.trailing_zeros() as u8;
         }
         front = s.nodes ^ (s.nodes & seen);
-        seen = seen | front;
+        seen |= front;
         left -= 1;
     }
     NO_LINK
@@ -80,10 +80,8 @@ pub fn first_links(
         return first;
     }
     let t = links_by_node(ends, ways, links, 0);
-    let mut to: u8 = 0;
-    while (to < nodes) & (to < MOST_NODES) {
-        first[to as usize] = first_link(&t, from as usize, to as usize);
-        to += 1;
+    for to in 0..nodes.min(MOST_NODES) as usize {
+        first[to] = first_link(&t, from as usize, to);
     }
     first
 }

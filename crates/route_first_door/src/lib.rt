@@ -9,10 +9,8 @@ pub fn pz_first(chart: &[u8], route: &mut [u8], length: usize) -> u8
     ensures { (result ≡ pz_first_number chart.now route.old) × (route.new ≡ pz_first_buffer chart.now route.old) }
 {
     let read = chart_read::read_chart(chart);
-    let refusal = read.refusal;
-    if refusal != 0 {
-        return refusal;
+    if read.refusal != 0 {
+        return read.refusal;
     }
-    let c = read.chart;
-    route_trace::one_number(route_trace::first_known(c, route))
+    route_trace::one_number(route_trace::first_known(read.chart, route))
 }

@@ -1,16 +1,15 @@
 -- The links of the arrays, one turn of the loop after another: after turn n the table holds those of the first n that lead from a node to another.
 use mathlib.Core.Path.{◌≡◌, refl, sym, ◌∙◌, ap, subst}
 use mathlib.Core.Logic.{◌⊎◌, inl, inr}
-use mathlib.Core.Bool.{Bool, true, false, ◌&&◌}
+use mathlib.Core.Bool.{Bool, true, false}
 use mathlib.Core.Option.{some}
 use mathlib.Core.List.{List, []}
-use Prim.Native.Nat.{ℕ, suc, ◌+◌, ◌^◌, ◌<◌}
+use Prim.Native.Nat.{ℕ, suc, ◌+◌, ◌^◌, ◌<◌, ◌≤◌, min}
 use native.Mathlib.Omega.{arith}
-use borrow.Author.Tests.{eqb-true, eqb-false, ltb-true, ltb-false}
-use lib.Dec.{eqb, ltb}
+use borrow.Author.Tests.{eqb-true, eqb-false}
+use lib.Dec.{eqb}
 use lib.ListN.{get_or, set, length, length-set, replicate}
 use lib.Seq.{get_or-set_same, get_or-set_other}
-use Rattle.lists.proofs.Bools.{and_left, and_right, both_ways}
 use Rattle.route.specs.Route.{Net}
 use Rattle.route_links.specs.Arrays.{is_out, is_back, net}
 use Rattle.route_links.specs.Sets.{has}
@@ -101,20 +100,6 @@ module _ (ends : List (List ℕ)) (ways : List ℕ) (links to : ℕ) where
   pub start-built : Built (Usable G 0) (replicate 97 0)
   start-built = none-built (Usable G 0) (λ i a f u. absurd (let z = u.below in omega arith))
 
--- ---- the loop's test, and its end
-
-pub goes_on : (i links : ℕ) → (ltb i links && ltb i 48) ≡ true → (i < links) × (i < 48)
-goes_on i links e = (ltb-true i links (and_left (ltb i links) (ltb i 48) e), ltb-true i 48 (and_right (ltb i links) (ltb i 48) e))
-
--- all links, or all that there are ways for
-ended : (i links : ℕ) → (ltb i links && ltb i 48) ≡ false → (j : ℕ) → j < links → j < 48 → j < i
-ended i links e j l h = go (ltb i links) refl (ltb i 48) refl e
-  where
-    go : (x : Bool) → ltb i links ≡ x → (y : Bool) → ltb i 48 ≡ y → (x && y) ≡ false → j < i
-    go false p y q k = let z = ltb-false i links p in omega arith
-    go true p false q k = let z = ltb-false i 48 q in omega arith
-    go true p true q k = absurd (both_ways refl k)
-
 -- the goal's word holds no link
 pub goal-built : (R : ℕ → ℕ → ℕ → Type 0) (t : List ℕ) (v : ℕ) → Built R t → Built R (set t 80 v)
 goal-built R t v B =
@@ -153,13 +138,13 @@ goal-built R t v B =
           sum = other (32 + i) (omega arith) ∙ k.sum;
         }
 
--- the table with the goal, when the loop has ended
-pub filled : (ends : List (List ℕ)) (ways : List ℕ) (links to i : ℕ) (t : List ℕ) → length ways ≡ 48 → (ltb i links && ltb i 48) ≡ false
+-- the table with the goal, when the loop is through all links, or all that there are ways for
+pub filled : (ends : List (List ℕ)) (ways : List ℕ) (links to i : ℕ) (t : List ℕ) → length ways ≡ 48 → min links 48 ≤ i
     → Built (Usable (net ends ways links to) i) t → ByNode (net ends ways links to) (set t 80 to)
 filled ends ways links to i t few e B =
     let G = net ends ways links to in
     let s : 80 < length t = (let z = B.size in omega arith) in
-    built-rows G refl (sound ends ways links to) (far-inside ends ways links) (set t 80 to) i (λ j a f q. ended i links e j (far-inside ends ways links j a f q) (low j a f q))
+    built-rows G refl (sound ends ways links to) (far-inside ends ways links) (set t 80 to) i (λ j a f q. (let l = far-inside ends ways links j a f q in let m = low j a f q in omega arith))
     (goal-built (Usable G i) t to B) (get_or-set_same t 80 to 0 s)
   where
     low : (j a f : ℕ) → (net ends ways links to).far j a ≡ some f → j < 48

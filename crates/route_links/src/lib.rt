@@ -42,7 +42,7 @@ fn put_in(t: &mut [u64; TABLE_SIZE], p: usize, i: usize)
     requires link { i < most_links }
     ensures { t.new ≡ put_in t.old p i }
 {
-    t[p] = t[p] | (1u64 << i);
+    t[p] |= 1u64 << i;
 }
 
 // Keeps link i as one that leads from a to b, if it is passed so and both are nodes, and two.
@@ -75,15 +75,11 @@ pub fn links_by_node(ends: [[u8; 2]; 48], ways: [u8; 48], links: usize, to: u8) 
     ensures { ByNode (net ends ways links to) result }
 {
     let mut t = [0u64; TABLE_SIZE];
-    let mut i: usize = 0;
-    while (i < links) & (i < MOST_LINKS as usize) {
-        let e = ends[i];
+    for i in 0..links.min(MOST_LINKS as usize) {
+        let [a, b] = ends[i];
         let way = ways[i];
-        let a = e[0];
-        let b = e[1];
         lead(&mut t, i, a, b, is_out(way));
         lead(&mut t, i, b, a, is_back(way));
-        i += 1;
     }
     t[GOAL] = to as u64;
     t

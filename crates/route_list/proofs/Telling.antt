@@ -1,13 +1,13 @@
 -- What the lister answers: each refusal in its turn, and what the walk counted and wrote.
-use Prim.Native.Nat.{ℕ, zero, suc, ◌+◌, ◌*◌, ◌-◌, ◌/◌, ◌<◌, ◌≤◌, min}
+use Prim.Native.Nat.{ℕ, zero, suc, ◌+◌, ◌*◌, ◌-◌, ◌<◌, ◌≤◌, min}
 use mathlib.Core.Path.{◌≡◌, refl, sym, ap, ap₂, subst, ◌∙◌}
-use mathlib.Core.Bool.{Bool, true, false, cond}
+use mathlib.Core.Bool.{Bool, true, false}
 use mathlib.Core.List.{List, [], ◌∷◌, ◌++◌, append_assoc}
 use native.Mathlib.Omega.{arith}
 use borrow.Author.Tests.{lt-ltb, le-ltb, ltb-true, ltb-false}
 use lib.Dec.{ltb}
 use lib.ListN.{length, take, drop, replicate, length-take, take-append-drop}
-use lib.Seq.{sets, take_all, length-take-le, drop-append-le}
+use lib.Seq.{sets, length-take-le, drop-append-le}
 use Rattle.lists.specs.Refusals.{unless_refused}
 use Rattle.lists.proofs.Stores.{sets-front}
 use Rattle.route.specs.All.{first_of}
@@ -24,7 +24,7 @@ use Rattle.route_list.specs.declared.Listed.{Listed}
 use Rattle.route_list.specs.Listing.{slots_of, slot_room, list_refusal, list_count, list_more, list_answer, list_after}
 use Rattle.route_list.specs.Private.{list_refusal_over, Slots, stow_all, paths_on}
 use Rattle.route_list.proofs.Slots.{Short, short-take, length-slots, all_short}
-use Rattle.route_list.proofs.Stowing.{stow-all}
+use Rattle.route_list.proofs.Stowing.{room-least, stow-all}
 use Rattle.route_list.proofs.Turns.{start-paths}
 
 -- what is promised of the answer and the bytes after it, where the refusal is k
@@ -69,28 +69,13 @@ module _ (rs : List (List ℕ)) (n : ℕ) where
 
 module _ (n : ℕ) where
   pub room-none : slot_room n ≡ 0 → n < 16
-  unfolding slot_room
-  room-none e = go (ltb 4095 (n / 16)) refl e
-    where
-      go : (b : Bool) → ltb 4095 (n / 16) ≡ b → cond b 4095 (n / 16) ≡ 0 → n < 16
-      go true h q = absurd (omega arith)
-      go false h q = omega arith
+  room-none e = omega (arith, room-least n)
 
   pub room_fits : 16 * slot_room n ≤ n
-  unfolding slot_room
-  room_fits = go (ltb 4095 (n / 16)) refl
-    where
-      go : (b : Bool) → ltb 4095 (n / 16) ≡ b → 16 * cond b 4095 (n / 16) ≤ n
-      go true h = let l = ltb-true 4095 (n / 16) h in omega arith
-      go false h = omega arith
+  room_fits = omega (arith, room-least n)
 
   pub room_small : slot_room n ≤ 4095
-  unfolding slot_room
-  room_small = go (ltb 4095 (n / 16)) refl
-    where
-      go : (b : Bool) → ltb 4095 (n / 16) ≡ b → cond b 4095 (n / 16) ≤ 4095
-      go true h = omega arith
-      go false h = ltb-false 4095 (n / 16) h
+  room_small = omega (arith, room-least n)
 
 -- ---- the walk's slots are written at the front of the buffer
 
@@ -134,19 +119,16 @@ module _ (rs : List (List ℕ)) (s : Short rs) (buf : List ℕ) (room : ℕ) (q 
         let t = length-take room rs in
         ap (λ (q : Slots). q.bytes ++ drop (16 * room) buf) all ∙ front-back buf (16 * room) fits (slots_of (take room rs)) (omega arith)
 
-    -- more than there is room for, and all of them
-    told_more : room < z.count → Gives (list_refusal rs (length buf)) rs buf (record { refusal = 0; count = room; more = true }) (z.bytes ++ drop (16 * room) buf)
-    told_more h =
-        let c = counted in
-        let l : length (take room rs) ≡ room = length-take-le room rs (omega arith) in
-        accepting (list_refusal rs (length buf)) rs buf _ room room true (refusal-some rs (length buf) enough (omega arith)) q l (lt-ltb room (length rs) (omega arith)) written
+    -- others follow where there are more than there is room for
+    follow : (b : Bool) → ltb room z.count ≡ b → ltb room (length rs) ≡ b
+    follow true h = let l = ltb-true room z.count h in let c = counted in lt-ltb room (length rs) (omega arith)
+    follow false h = let l = ltb-false room z.count h in let c = counted in le-ltb room (length rs) (omega arith)
 
-    told-all : 0 < length rs → z.count ≤ room → Gives (list_refusal rs (length buf)) rs buf (record { refusal = 0; count = z.count; more = false }) (z.bytes ++ drop (16 * room) buf)
-    told-all ne h =
+    told : 0 < length rs → Gives (list_refusal rs (length buf)) rs buf (record { refusal = 0; count = min z.count room; more = ltb room z.count }) (z.bytes ++ drop (16 * room) buf)
+    told ne =
         let c = counted in
-        let n : length rs ≤ room = omega arith in
-        let l : length (take room rs) ≡ z.count = ap length (take_all room rs n) ∙ omega arith in
-        accepting (list_refusal rs (length buf)) rs buf _ room z.count false (refusal-some rs (length buf) enough (omega arith)) q l (le-ltb room (length rs) n) written
+        let l : length (take room rs) ≡ min z.count room = omega (arith, length-take room rs) in
+        accepting (list_refusal rs (length buf)) rs buf _ room _ _ (refusal-some rs (length buf) enough ne) q l (follow (ltb room z.count) refl) written
 
 -- ---- the list over the arrays: each way that the code returns
 
@@ -207,12 +189,10 @@ module _ (ends : List (List ℕ)) (ways : List ℕ) (links from to : ℕ) (buf :
       over : {r : Listed} → Gives (list_refusal (routes_over ends ways links from to) (length buf)) (routes_over ends ways links from to) buf r (z.bytes ++ drop (16 * room) buf) → Lists r (z.bytes ++ drop (16 * room) buf)
       over {r} g = subst (λ (k : ℕ). Gives k rs buf r (z.bytes ++ drop (16 * room) buf)) numbered g
 
-      pub lists_more : room < z.count → Lists (record { refusal = 0; count = room; more = true }) (z.bytes ++ drop (16 * room) buf)
-      lists_more h = over (told_more rs short buf room q some z walked h)
-
-      pub list_all : (answer : Bool) → Reaches t from answer → answer ≡ true → z.count ≤ room → Lists (record { refusal = 0; count = z.count; more = false }) (z.bytes ++ drop (16 * room) buf)
+      pub lists : (answer : Bool) → Reaches t from answer → answer ≡ true
+          → Lists (record { refusal = 0; count = min z.count room; more = ltb room z.count }) (z.bytes ++ drop (16 * room) buf)
       unfolding routes_over
-      list_all answer R e h = over (told-all rs short buf room q some z walked (some-routes rs (λ k. some-reached t from answer R H.walkable inside e (H.same from inside ∙ k))) h)
+      lists answer R e = over (told rs short buf room q some z walked (some-routes rs (λ k. some-reached t from answer R H.walkable inside e (H.same from inside ∙ k))))
         where
           H : Holds (net ends ways links to) t
           H = table-holds ends ways links to t b

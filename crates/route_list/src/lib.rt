@@ -40,10 +40,7 @@ fn refused(refusal: u8) -> Listed
 fn slot_room(n: usize) -> usize
     ensures { result ≡ slot_room n }
 {
-    if MOST_SLOTS < n / SLOT_SIZE {
-        return MOST_SLOTS;
-    }
-    n / SLOT_SIZE
+    MOST_SLOTS.min(n / SLOT_SIZE)
 }
 
 // Lists the routes from one node place to another, in order; or a refusal, which changes nothing.
@@ -81,16 +78,9 @@ pub fn list(
         &mut out[..SLOT_SIZE * room],
         0,
     );
-    if room < n {
-        return Listed {
-            refusal: 0,
-            count: room,
-            more: true,
-        };
-    }
     Listed {
         refusal: 0,
-        count: n,
-        more: false,
+        count: n.min(room),
+        more: room < n,
     }
 }

@@ -14,11 +14,8 @@ fn put(out: &mut [u8], n: usize, slot: [u8; 16])
     requires { n < room_in out.old }
     ensures { out.new ≡ sets out.old (slot_size * n) slot }
 {
-    let mut k: usize = 0;
-    while k < SLOT_SIZE {
-        out[SLOT_SIZE * n + k] = slot[k];
-        k += 1;
-    }
+    let at = SLOT_SIZE * n;
+    out[at..at + SLOT_SIZE].copy_from_slice(&slot);
 }
 
 // The path is a route of d links: writes it at place n, if there is room, and counts it.
@@ -55,14 +52,14 @@ fn try_links(
     let mut left = links;
     let mut p = n;
     while left != 0 {
-        let i = u64::trailing_zeros(left);
+        let i = left.trailing_zeros() as usize;
         let mut then = path;
         then[d + 1] = i as u8;
-        p = walk_on(t, t[SUM_ROW + i as usize] - at, gone, d + 1, then, out, p);
+        p = walk_on(t, t[SUM_ROW + i] - at, gone, d + 1, then, out, p);
         if out.len() / SLOT_SIZE < p {
             return p;
         }
-        left = left ^ (1u64 << i);
+        left ^= 1u64 << i;
     }
     p
 }

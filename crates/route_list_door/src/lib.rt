@@ -18,12 +18,10 @@ pub fn pz_routes(
     *place = read.place as u16;
     *count = 0;
     *more = 0;
-    let refusal = read.refusal;
-    if refusal != 0 {
-        return refusal;
+    if read.refusal != 0 {
+        return read.refusal;
     }
-    let c = read.chart;
-    let l = route_trace::list_known(c, slots);
+    let l = route_trace::list_known(read.chart, slots);
     *count = l.count as u16;
     *more = l.more as u8;
     l.refusal

@@ -9,10 +9,8 @@ pub fn pz_next(chart: &[u8], route: &mut [u8], length: usize) -> u8
     ensures { (result ≡ pz_next_number chart.now route.old length) × (route.new ≡ pz_next_buffer chart.now route.old length) }
 {
     let read = chart_read::read_chart(chart);
-    let refusal = read.refusal;
-    if refusal != 0 {
-        return refusal;
+    if read.refusal != 0 {
+        return read.refusal;
     }
-    let c = read.chart;
-    route_trace::one_number(route_trace::next_known(c, route, length))
+    route_trace::one_number(route_trace::next_known(read.chart, route, length))
 }

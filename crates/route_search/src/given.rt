@@ -47,14 +47,15 @@ pub fn later(t: &[u64; TABLE_SIZE], r: &[u8], f: u64, gone: u64, d: usize) -> Fo
     }
     let then = gone | t[k] | (1u64 << (48 + f));
     let mut w = later(t, r, t[SUM_ROW + i as usize] - f, then, d + 1);
-    let refusal = w.refusal;
-    if refusal == 41 {
-        return w;
+    match w.refusal {
+        41 => w,
+        43 => {
+            let c = ahead(t, then, after(links, i));
+            try_links(t, f, then, c, d)
+        }
+        _ => {
+            w.route[d] = b;
+            w
+        }
     }
-    if refusal == 43 {
-        let c = ahead(t, then, after(links, i));
-        return try_links(t, f, then, c, d);
-    }
-    w.route[d] = b;
-    w
 }

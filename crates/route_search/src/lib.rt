@@ -42,10 +42,8 @@ fn hand_over(f: Found, buf: &mut [u8]) -> Traced
     if f.refusal != 0 {
         return Traced::Refused(f.refusal);
     }
-    let n = f.len;
-    let route = f.route;
-    buffer::put_all(buf, 0, &route[..n]);
-    Traced::Route(n as u8)
+    buffer::put_all(buf, 0, &f.route[..f.len]);
+    Traced::Route(f.len as u8)
 }
 
 // The least route from one node place to another, written into the buffer; or a refusal, which changes nothing.

@@ -28,8 +28,8 @@ pub fn try_links(t: &[u64; TABLE_SIZE], at: u64, gone: u64, links: u64, d: usize
     if links == 0 {
         return nothing(43);
     }
-    let i = u64::trailing_zeros(links);
-    let mut f = walk_on(t, t[SUM_ROW + i as usize] - at, gone, d + 1);
+    let i = links.trailing_zeros() as usize;
+    let mut f = walk_on(t, t[SUM_ROW + i] - at, gone, d + 1);
     f.route[d] = i as u8;
     f
 }

@@ -33,11 +33,8 @@ fn put_nodes(out: &mut [u8], at: usize, nodes: Nodes) -> usize
     ensures { Laid out.old at (joined (line_at node_line (node_at nodes)) place nodes.count) out.new result }
 {
     let mut next = at;
-    let mut i: usize = 0;
-    while i < nodes.count as usize {
-        let n = nodes.items[i];
-        next = put_node(out, next, i, n);
-        i += 1;
+    for (i, n) in nodes.items[..nodes.count as usize].iter().enumerate() {
+        next = put_node(out, next, i, *n);
     }
     next
 }
@@ -48,11 +45,8 @@ fn put_links(out: &mut [u8], at: usize, links: Links) -> usize
     ensures { Laid out.old at (joined (line_at link_line (link_at links)) place links.count) out.new result }
 {
     let mut next = at;
-    let mut i: usize = 0;
-    while i < links.count as usize {
-        let l = links.items[i];
-        next = put_link(out, next, i, l);
-        i += 1;
+    for (i, l) in links.items[..links.count as usize].iter().enumerate() {
+        next = put_link(out, next, i, *l);
     }
     next
 }
@@ -62,16 +56,15 @@ fn put_chart_routes(out: &mut [u8], at: usize, c: Chart) -> usize
     requires { chart_refusal c ≡ 0 }
     ensures { Laid out.old at (list_text most_routes (routes_of c)) out.new result }
 {
-    let links = c.links;
     let ends = ends_of(c);
-    let ways = passages_for(links);
+    let ways = passages_for(c.links);
     let asked = asked_of(c);
     put_routes(
         out,
         at,
         ends,
         ways,
-        links.count as usize,
+        c.links.count as usize,
         asked.from,
         asked.to,
     )
@@ -82,11 +75,9 @@ fn put_chart(out: &mut [u8], at: usize, c: Chart) -> usize
     requires { chart_refusal c ≡ 0 }
     ensures { Laid out.old at (chart_text c) out.new result }
 {
-    let nodes = c.nodes;
-    let links = c.links;
-    let n1 = put_counts(out, at, nodes.count, links.count);
-    let n2 = put_nodes(out, n1, nodes);
-    let n3 = put_links(out, n2, links);
+    let n1 = put_counts(out, at, c.nodes.count, c.links.count);
+    let n2 = put_nodes(out, n1, c.nodes);
+    let n3 = put_links(out, n2, c.links);
     let n4 = put_question(out, n3, c.from, c.to);
     put_chart_routes(out, n4, c)
 }
@@ -99,8 +90,7 @@ fn put_read(out: &mut [u8], at: usize, r: ChartRead) -> usize
     if r.refusal != 0 {
         return put_refused(out, at, r.refusal, r.place);
     }
-    let c = r.chart;
-    put_chart(out, at, c)
+    put_chart(out, at, r.chart)
 }
 
 // The sheet of an input.
@@ -110,8 +100,7 @@ fn put_sheet(out: &mut [u8], at: usize, bytes: &[u8]) -> usize
     if LONGEST_INPUT < bytes.len() {
         return put_bytes(out, at, b"too long\n");
     }
-    let r = read_chart(bytes);
-    put_read(out, at, r)
+    put_read(out, at, read_chart(bytes))
 }
 
 // Writes the sheet of an input at the start of out, and gives the number of bytes written; 10 where there is no room for all of it. In a buffer that may

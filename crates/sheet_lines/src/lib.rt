@@ -47,19 +47,16 @@ fn put_label(out: &mut [u8], at: usize, label: [u8; 24], long: u8) -> usize
         return at;
     }
     let next = put_byte(out, at, b' ');
-    let n = if long < 24 { long as usize } else { 24 };
-    put_bytes(out, next, &label[..n])
+    put_bytes(out, next, &label[..(long as usize).min(24)])
 }
 
 // The line of the node at a place.
 pub fn put_node(out: &mut [u8], at: usize, i: usize, n: ChartNode) -> usize
     ensures { Laid out.old at (node_line i n) out.new result }
 {
-    let station = n.station;
-    let label = n.label;
     let n1 = put_number(out, at, i);
-    let n2 = put_station(out, n1, b" ", station);
-    let n3 = put_label(out, n2, label, n.length);
+    let n2 = put_station(out, n1, b" ", n.station);
+    let n3 = put_label(out, n2, n.label, n.length);
     put_byte(out, n3, b'\n')
 }
 
@@ -90,11 +87,9 @@ fn put_direction(out: &mut [u8], at: usize, d: u8) -> usize
 pub fn put_link(out: &mut [u8], at: usize, i: usize, l: Link) -> usize
     ensures { Laid out.old at (link_line i l) out.new result }
 {
-    let a = l.a;
-    let b = l.b;
     let n1 = put_number(out, at, i);
-    let n2 = put_end(out, n1, a);
-    let n3 = put_end(out, n2, b);
+    let n2 = put_end(out, n1, l.a);
+    let n3 = put_end(out, n2, l.b);
     let n4 = put_on(out, n3, l.on);
     put_direction(out, n4, l.direction)
 }

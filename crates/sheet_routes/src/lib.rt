@@ -19,11 +19,9 @@ fn put_places(out: &mut [u8], at: usize, r: &[u8]) -> usize
     ensures { Laid out.old at (places_text (drop 1 r.now)) out.new result }
 {
     let mut next = at;
-    let mut i: usize = 1;
-    while i < r.len() {
+    for i in 1..r.len() {
         next = put_byte(out, next, b' ');
         next = put_number(out, next, r[i] as usize);
-        i += 1;
     }
     next
 }
@@ -32,7 +30,7 @@ fn put_places(out: &mut [u8], at: usize, r: &[u8]) -> usize
 fn put_route(out: &mut [u8], at: usize, r: &[u8]) -> usize
     ensures { Laid out.old at (route_line r.now) out.new result }
 {
-    if r.len() == 0 {
+    if r.is_empty() {
         return put_bytes(out, at, b"-\n");
     }
     let n1 = put_number(out, at, r[0] as usize);
@@ -60,12 +58,10 @@ fn put_slots(out: &mut [u8], at: usize, slots: &[u8], n: usize) -> usize
     ensures { Laid out.old at (lines_text (routes_from slots.now 0 n)) out.new result }
 {
     let mut next = at;
-    let mut k: usize = 0;
-    while k < n {
+    for k in 0..n {
         let route = SLOT_SIZE * k + 1;
         let d = slots[SLOT_SIZE * k] as usize;
         next = put_route(out, next, &slots[route..route + d]);
-        k += 1;
     }
     next
 }

@@ -2,15 +2,16 @@
 use Prim.Native.Nat.{ℕ, ◌<◌, ◌≤◌}
 use mathlib.Core.Path.{◌≡◌, refl, sym, ap, ◌∙◌}
 use lib.Dec.{leb}
-use mathlib.Core.Bool.{Bool, true, false, not, ◌||◌, cond}
-use lib.ListN.{length, get_or}
+use mathlib.Core.Bool.{Bool, true, false, not, ◌&&◌, ◌||◌, cond}
+use lib.ListN.{length, get_or, take}
 use borrow.Author.Tests.{leb-true, le-leb, lt-leb}
 use Rattle.lists.specs.Places.{any_below}
 use Rattle.lists.specs.Refusals.{refuse, unless_refused}
 use Rattle.lists.proofs.Bools.{and_left}
-use Rattle.lists.proofs.Places.{element-own, any_found, first-stop, FirstAt}
+use Rattle.lists.proofs.Places.{element-taken, any_found, first-stop, FirstAt}
 use Rattle.address.specs.declared.Port.{Port}
 use Rattle.address.specs.declared.Address.{Address}
+use Rattle.address.specs.Address.{in_range}
 use Rattle.table.specs.declared.Entry.{Entry}
 use Rattle.table.specs.declared.Table.{Table}
 use Rattle.table.specs.declared.Choice.{Choice}
@@ -34,24 +35,24 @@ module _ (t : Table) (d : Address) (arrival : Port) where
   unfolding out_choice has_route
   out_none h = rw h
 
--- ---- the entries that the code reads: below its length, an array has the table's own
+-- ---- the entries that the code reads: those that count are the table's own
 
-module _ (t : Table) (z : Entry) (i : ℕ) (h : i < length t.entries) where
-  entry_read : entry_at t i ≡ get_or t.entries i z
+module _ (t : Table) (z : Entry) (i : ℕ) (h : i < length (take t.count t.entries)) where
+  entry_read : entry_at t i ≡ get_or (take t.count t.entries) i z
   unfolding entry_at
-  entry_read = sym (element-own no_entry z t.entries i h)
+  entry_read = sym (element-taken no_entry z t.entries t.count i h)
 
-  pub stray-read : stray_entry t i ≡ not (entry_in_range (get_or t.entries i z))
+  pub stray-read : stray_entry t i ≡ not (entry_in_range (get_or (take t.count t.entries) i z))
   unfolding stray_entry
   stray-read = ap (λ (e : Entry). not (entry_in_range e)) entry_read
 
-  pub qualifies-read : (d : Address) (arrival : Port) → qualifies_at t d arrival i ≡ qualifies d arrival (get_or t.entries i z)
+  pub qualifies-read : (d : Address) (arrival : Port) → qualifies_at t d arrival i ≡ qualifies d arrival (get_or (take t.count t.entries) i z)
   unfolding qualifies_at
   qualifies-read d arrival = ap (qualifies d arrival) entry_read
 
   -- the search stops here
   pub out-read : (d : Address) (arrival : Port) → i < t.count → any_below (qualifies_at t d arrival) i ≡ false
-      → qualifies d arrival (get_or t.entries i z) ≡ true → Out (get_or t.entries i z).port ≡ out_choice t d arrival
+      → qualifies d arrival (get_or (take t.count t.entries) i z) ≡ true → Out (get_or (take t.count t.entries) i z).port ≡ out_choice t d arrival
   out-read d arrival l n q =
       ap (λ (e : Entry). Out e.port) (sym entry_read)
       ∙ sym (out-found t d arrival i (record { below = l; passes = qualifies-read d arrival ∙ q; none_before = n }))
@@ -87,6 +88,11 @@ module _ (t : Table) (d : Address) (arrival : Port) where
     pub chosen-tested : call_in_range d arrival ≡ true → choose_of t d arrival ≡ choice_for t d arrival
     unfolding choose_of choice_for
     chosen-tested h = rw (table, h, le-leb t.count 32 (count-le t table))
+
+-- what the test of a call's destination and port tells
+pub call-told : (d : Address) (arrival : Port) {b : Bool} → b ≡ in_range d → (b && leb arrival.0 63) ≡ call_in_range d arrival
+unfolding call_in_range
+call-told d arrival e = ap (λ (b : Bool). b && leb arrival.0 63) e
 
 -- ---- the way, case by case
 

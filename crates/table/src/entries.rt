@@ -22,8 +22,7 @@ fn covers(g: Target, d: Address) -> bool
 pub fn qualifies(e: Entry, d: Address, arrival: Port) -> bool
     ensures { result ≡ qualifies d arrival e }
 {
-    let g = e.target;
-    e.on & (e.port.0 != arrival.0) & covers(g, d)
+    e.on & (e.port.0 != arrival.0) & covers(e.target, d)
 }
 
 // Out by the first entry that qualifies, or 52.
@@ -31,15 +30,10 @@ pub fn out_choice(t: Table, d: Address, arrival: Port) -> Choice
     requires { t.count ≤ most_entries }
     ensures { result ≡ out_choice t d arrival }
 {
-    let n = t.count as usize;
-    let mut i = 0;
-    while i < n {
-        let e = t.entries[i];
-        if qualifies(e, d, arrival) {
-            let p = e.port;
-            return Choice::Out(p);
+    for e in &t.entries[..t.count as usize] {
+        if qualifies(*e, d, arrival) {
+            return Choice::Out(e.port);
         }
-        i += 1;
     }
     Choice::Refused(52)
 }

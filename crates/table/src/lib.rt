@@ -62,10 +62,9 @@ pub fn no_entry() -> Entry
 fn own_station(t: Table) -> Station
     ensures { result ≡ own_station t }
 {
-    let n = t.node;
     Station {
         brigade: t.brigade,
-        node: n,
+        node: t.node,
     }
 }
 
@@ -80,8 +79,7 @@ pub fn choice_for(table: Table, destination: Address, arrival: Port) -> Choice
         return Choice::Refused(50);
     }
     if address::same_station(own_station(table), address::station_of(destination)) {
-        let p = destination.port;
-        return Choice::Local(p);
+        return Choice::Local(destination.port);
     }
     out_choice(table, destination, arrival)
 }

@@ -23,8 +23,7 @@ fn target_in_range(g: Target) -> bool
 fn entry_in_range(e: Entry) -> bool
     ensures { result ≡ entry_in_range e }
 {
-    let g = e.target;
-    (1 <= e.port.0) & (e.port.0 <= LARGEST_PORT) & target_in_range(g)
+    (1 <= e.port.0) & (e.port.0 <= LARGEST_PORT) & target_in_range(e.target)
 }
 
 // Whether an entry that counts is out of range.
@@ -32,14 +31,10 @@ fn any_stray(t: Table) -> bool
     requires { t.count ≤ most_entries }
     ensures { result ≡ any_below (stray_entry t) t.count }
 {
-    let n = t.count as usize;
-    let mut i = 0;
-    while i < n {
-        let e = t.entries[i];
-        if !entry_in_range(e) {
+    for e in &t.entries[..t.count as usize] {
+        if !entry_in_range(*e) {
             return true;
         }
-        i += 1;
     }
     false
 }

@@ -35,10 +35,8 @@ fn entry_in(b: &[u8], at: usize) -> Entry
     requires { at + 6 ≤ length b.now }
     ensures { result ≡ entry_in b.now at }
 {
-    let node = buffer::word_at(b, at + 2);
-    let target = target_of(b[at], b[at + 1], node);
     Entry {
-        target,
+        target: target_of(b[at], b[at + 1], buffer::word_at(b, at + 2)),
         port: Port(b[at + 4]),
         on: b[at + 5] == 1,
     }
@@ -60,12 +58,10 @@ fn any_stray(b: &[u8], n: usize) -> bool
     requires { (n ≤ most_entries) × (table_size ≤ length b.now) }
     ensures { result ≡ any_below (stray_entry_held b.now) n }
 {
-    let mut i = 0;
-    while i < n {
+    for i in 0..n {
         if stray_entry(b, ENTRIES_START + ENTRY_SIZE * i) {
             return true;
         }
-        i += 1;
     }
     false
 }
@@ -88,8 +84,7 @@ fn readable_table(b: &[u8]) -> bool
 pub fn table_of(b: &[u8]) -> Table
     ensures { result ≡ table_of b.now }
 {
-    let none = table::no_entry();
-    let mut entries = [none; 32];
+    let mut entries = [table::no_entry(); 32];
     if !readable_table(b) {
         return Table {
             brigade: 0,
@@ -99,18 +94,13 @@ pub fn table_of(b: &[u8]) -> Table
         };
     }
     let count = b[3];
-    let n = count as usize;
-    let mut i = 0;
-    while i < n {
-        let e = entry_in(b, ENTRIES_START + ENTRY_SIZE * i);
-        entries[i] = e;
-        i += 1;
+    for i in 0..count as usize {
+        entries[i] = entry_in(b, ENTRIES_START + ENTRY_SIZE * i);
     }
-    let node = buffer::word_at(b, 1);
     Table {
         brigade: b[0],
         count,
-        node: Node(node),
+        node: Node(buffer::word_at(b, 1)),
         entries,
     }
 }
@@ -119,20 +109,15 @@ pub fn table_of(b: &[u8]) -> Table
 fn entry_bytes(e: Entry) -> [u8; 6]
     ensures { result ≡ entry_bytes e }
 {
-    let g = e.target;
-    let p = e.port;
+    let port = e.port.0;
     let on = e.on as u8;
-    match g {
-        Target::One(brigade, node) => [
-            0,
-            brigade,
-            (node.0 / 256) as u8,
-            (node.0 % 256) as u8,
-            p.0,
-            on,
-        ],
-        Target::Brigade(brigade) => [1, brigade, 0, 0, p.0, on],
-        Target::Everything => [2, 0, 0, 0, p.0, on],
+    match e.target {
+        Target::One(brigade, node) => {
+            let [high, low] = node.0.to_be_bytes();
+            [0, brigade, high, low, port, on]
+        }
+        Target::Brigade(brigade) => [1, brigade, 0, 0, port, on],
+        Target::Everything => [2, 0, 0, 0, port, on],
     }
 }
 
@@ -140,12 +125,8 @@ fn entry_bytes(e: Entry) -> [u8; 6]
 fn put_entries(image: &mut [u8], t: Table)
     ensures { image.new ≡ sets image.old entries_start (joined entry_bytes (entry_at t) most_entries) }
 {
-    let mut i: usize = 0;
-    while i < 32 {
-        let e = t.entries[i];
-        let b = entry_bytes(e);
-        buffer::put_all(image, ENTRIES_START + ENTRY_SIZE * i, &b);
-        i += 1;
+    for (i, e) in t.entries.iter().enumerate() {
+        buffer::put_all(image, ENTRIES_START + ENTRY_SIZE * i, &entry_bytes(*e));
     }
 }
 
@@ -153,9 +134,8 @@ fn put_entries(image: &mut [u8], t: Table)
 pub fn put_table(image: &mut [u8], t: Table)
     ensures { image.new ≡ sets image.old 0 (table_image t) }
 {
-    let n = t.node.0;
-    let head = [t.brigade, (n / 256) as u8, (n % 256) as u8, t.count];
-    buffer::put_all(image, 0, &head);
+    let [high, low] = t.node.0.to_be_bytes();
+    buffer::put_all(image, 0, &[t.brigade, high, low, t.count]);
     put_entries(image, t);
 }
 
@@ -182,12 +162,10 @@ fn all_in_range(b: &[u8], n: usize) -> bool
     requires { (n ≤ most_entries) × (table_size ≤ length b.now) }
     ensures { result ≡ not (any_below (unranged_held b.now) n) }
 {
-    let mut i = 0;
-    while i < n {
+    for i in 0..n {
         if !entry_in_range(b, ENTRIES_START + ENTRY_SIZE * i) {
             return false;
         }
-        i += 1;
     }
     true
 }
@@ -215,14 +193,11 @@ fn out_choice_in(b: &[u8], n: usize, d: Address, arrival: Port) -> Choice
     requires counted { n ≡ entry_count b.now }
     ensures { result ≡ out_choice (table_of b.now) d arrival }
 {
-    let mut i = 0;
-    while i < n {
+    for i in 0..n {
         let e = entry_in(b, ENTRIES_START + ENTRY_SIZE * i);
         if table::qualifies(e, d, arrival) {
-            let p = e.port;
-            return Choice::Out(p);
+            return Choice::Out(e.port);
         }
-        i += 1;
     }
     Choice::Refused(52)
 }
@@ -240,10 +215,8 @@ pub fn choose_in(b: &[u8], d: Address, arrival: Port) -> Choice
     if !(address::in_range(d) & (arrival.0 <= LARGEST_PORT)) {
         return Choice::Refused(51);
     }
-    let n = buffer::word_at(b, 1);
-    if (b[0] == d.brigade) & (n == d.node.0) {
-        let p = d.port;
-        return Choice::Local(p);
+    if (b[0] == d.brigade) & (buffer::word_at(b, 1) == d.node.0) {
+        return Choice::Local(d.port);
     }
     out_choice_in(b, b[3] as usize, d, arrival)
 }

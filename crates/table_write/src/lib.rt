@@ -21,24 +21,19 @@ pub struct TableWritten {
 fn near_end(l: Link, s: Station) -> Address
     ensures { result ≡ near_end l s }
 {
-    let a = l.a;
-    let b = l.b;
-    if address::same_station(address::station_of(a), s) {
-        return a;
+    if address::same_station(address::station_of(l.a), s) {
+        return l.a;
     }
-    b
+    l.b
 }
 
 // The entry, on, for the node at a station, out over a link from the station s.
 fn entry_over(l: Link, s: Station, to: Station) -> Entry
     ensures { result ≡ entry_over l s to }
 {
-    let e = near_end(l, s);
-    let port = e.port;
-    let node = to.node;
     Entry {
-        target: Target::One(to.brigade, node),
-        port,
+        target: Target::One(to.brigade, to.node),
+        port: near_end(l, s).port,
         on: true,
     }
 }
@@ -48,28 +43,19 @@ fn table_over(c: Chart, s: Station, first: [u8; 16]) -> Table
     requires { c.nodes.count ≤ most_nodes }
     ensures { result ≡ table_over c s first }
 {
-    let none = table::no_entry();
-    let mut entries = [none; 32];
-    let nodes = c.nodes;
-    let links = c.links;
-    let n = nodes.count as usize;
+    let mut entries = [table::no_entry(); 32];
     let mut count: usize = 0;
-    let mut b: usize = 0;
-    while b < n {
+    for b in 0..c.nodes.count as usize {
         let i = first[b];
         if i < MOST_LINKS {
-            let node = nodes.items[b];
-            let l = links.items[i as usize];
-            entries[count] = entry_over(l, s, node.station);
+            entries[count] = entry_over(c.links.items[i as usize], s, c.nodes.items[b].station);
             count += 1;
         }
-        b += 1;
     }
-    let own = s.node;
     Table {
         brigade: s.brigade,
         count: count as u8,
-        node: own,
+        node: s.node,
         entries,
     }
 }
@@ -78,14 +64,13 @@ fn table_over(c: Chart, s: Station, first: [u8; 16]) -> Table
 fn no_table(refusal: u8) -> TableWritten
     ensures { result ≡ record { refusal = refusal; table = no_table } }
 {
-    let none = table::no_entry();
     TableWritten {
         refusal,
         table: Table {
             brigade: 0,
             count: 0,
             node: Node(0),
-            entries: [none; 32],
+            entries: [table::no_entry(); 32],
         },
     }
 }
@@ -94,17 +79,17 @@ fn no_table(refusal: u8) -> TableWritten
 pub fn write_known(c: Chart, s: Station) -> TableWritten
     ensures { result ≡ write_known_of c s }
 {
-    let nodes = c.nodes;
-    let a = chart_net::place_of(nodes, s);
-    if (nodes.count <= a) | (MOST_NODES <= a) {
+    let a = chart_net::place_of(c.nodes, s);
+    if (c.nodes.count <= a) | (MOST_NODES <= a) {
         return no_table(44);
     }
-    let links = c.links;
     let ends = chart_net::ends_of(c);
-    let ways = chart_net::passages_for(links);
-    let first = route_fewest::first_links(ends, ways, links.count as usize, nodes.count, a);
-    let table = table_over(c, s, first);
-    TableWritten { refusal: 0, table }
+    let ways = chart_net::passages_for(c.links);
+    let first = route_fewest::first_links(ends, ways, c.links.count as usize, c.nodes.count, a);
+    TableWritten {
+        refusal: 0,
+        table: table_over(c, s, first),
+    }
 }
 
 // The table of one of the chart's nodes, written from the chart; or a refusal.

@@ -1,33 +1,20 @@
 // Text in a lent buffer: a byte past the end is not stored, and the place goes on counting. So writing into an empty buffer measures a text,
-// and no writer asks anything of its caller.
+// and no writer asks anything of its caller. A place that would be past the largest usize stays there.
 #![tactic(auto)]
 
-ghost use Rattle.std.specs.Prelude.{◌≡◌, [], ◌∷◌, ◌+◌, min};
-ghost use Rattle.text.specs.Private.{Laid, last};
+ghost use Rattle.std.specs.Prelude.{[], ◌∷◌};
+ghost use Rattle.text.specs.Private.{Laid};
 ghost use Rattle.text.specs.Decimal.{digits, decimal};
-
-// The largest usize: no slice is so long, and a place that would be past it stays there.
-const LAST: usize = 18446744073709551615;
 
 // The digits of the largest usize.
 const MOST_DIGITS: usize = 20;
-
-// The place n bytes on.
-fn past(at: usize, n: usize) -> usize
-    ensures { result ≡ min (at + n) last }
-{
-    if LAST - at < n {
-        return LAST;
-    }
-    at + n
-}
 
 // One byte at a place.
 pub fn put_byte(out: &mut [u8], at: usize, b: u8) -> usize
     ensures { Laid out.old at (b ∷ []) out.new result }
 {
     if out.len() <= at {
-        return past(at, 1);
+        return at.saturating_add(1);
     }
     out[at] = b;
     at + 1
@@ -38,7 +25,7 @@ pub fn put_bytes(out: &mut [u8], at: usize, s: &[u8]) -> usize
     ensures { Laid out.old at s.now out.new result }
 {
     buffer::put_all(out, at, s);
-    past(at, s.len())
+    at.saturating_add(s.len())
 }
 
 // The last k digits of n at most, with no zeros in front.
@@ -49,10 +36,10 @@ fn put_digits(out: &mut [u8], at: usize, n: usize, k: usize) -> usize
         return at;
     }
     if n < 10 {
-        return put_byte(out, at, 48 + n as u8);
+        return put_byte(out, at, b'0' + n as u8);
     }
     let next = put_digits(out, at, n / 10, k - 1);
-    put_byte(out, next, 48 + (n % 10) as u8)
+    put_byte(out, next, b'0' + (n % 10) as u8)
 }
 
 // A number in decimal.

@@ -4,4 +4,4 @@ use Rattle.chart.proofs.no_chart.Goals as goal
 
 pub returns : goal.returns
 unfolding no_chart
-returns c = rw (c.no_node-node.ensures, c.no_link-link.ensures)
+returns c = rw (c.no_node.ensures, c.no_link.ensures)

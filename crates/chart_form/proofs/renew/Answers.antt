@@ -1,6 +1,5 @@
 -- `chart_form::renew` meets its contract: the form is one of the two.
 use mathlib.Core.Path.{refl}
-use borrow.Author.Rules.{rules}
 use Rattle.chart_read.specs.Fields.{is_form}
 use Rattle.chart_form.proofs.renew.Goals as goal
 

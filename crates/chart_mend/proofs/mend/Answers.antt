@@ -6,10 +6,9 @@ use mathlib.Core.List.{List}
 use native.Mathlib.Omega.{arith}
 use lib.ListN.{length, take}
 use lib.Seq.{sets}
-use borrow.Author.Rules.{rules}
 use borrow.Author.Tests.{not-true, not-false}
 use Rattle.chart_mend.specs.Mending.{held_of, kept_bytes, list_bytes}
-use Rattle.chart_mend.proofs.Mending.{too_long, no_question, no_room, no-list-room, long-aside, laid-aside, both-short, Comes, comes-refused, comes-taken}
+use Rattle.chart_mend.proofs.Mending.{too_long, no_question, no_room, no-list-room, laid-aside, both-short, Comes, comes-refused, comes-taken}
 use Rattle.chart_mend.proofs.mend.Goals as goal
 
 pub returns-then-input-gt-LONGEST_INPUT : goal.returns-then-input-gt-LONGEST_INPUT

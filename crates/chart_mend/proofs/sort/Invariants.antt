@@ -1,14 +1,9 @@
 -- `chart_mend::sort` meets its contract. The loop's invariant: the fields behind it are stored, those before it are still to come, and the keys are those of
 -- what is held.
-use Prim.Native.Nat.{ℕ, ◌-◌}
-use mathlib.Core.Path.{ap, ◌∙◌}
-use native.Mathlib.Omega.{arith}
+use Prim.Native.Nat.{◌-◌}
 use lib.ListN.{length}
-use lib.Seq.{length-sets}
-use borrow.Author.Rules.{rules}
-use Rattle.buffer.specs.Bytes.{Bytes}
 use Rattle.chart_read.specs.Private.{as_keys}
-use Rattle.chart_mend.proofs.Sorting.{Turn, Sorting, Field, sorting_start, few-kept, few-listed, goes_on, sorting-kept, sorting-dropped, sorting-end}
+use Rattle.chart_mend.proofs.Sorting.{Sorting}
 use Rattle.chart_mend.proofs.sort.Given as goal
 
 abbrev pub invariant-loop-at : goal.invariant-loop-at

@@ -1,5 +1,4 @@
 -- `chart_net::asked_of` meets its contract: the place of each of the question's stations.
-use borrow.Author.Rules.{rules}
 use Rattle.chart_net.specs.Private.{asked_of}
 use Rattle.chart_net.proofs.asked_of.Goals as goal
 

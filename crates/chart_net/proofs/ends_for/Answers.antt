@@ -1,32 +1,26 @@
--- `chart_net::ends_for` meets its contract. The loop's invariant: the ends of the links before i stand in the row, the rest is 0.
-use Prim.Native.Nat.{◌≤◌, ◌-◌}
+-- `chart_net::ends_for` meets its contract: too many links have no ends here, else each link's stand at its place.
 use mathlib.Core.Path.{◌≡◌}
-use mathlib.Core.List.{[], ◌∷◌}
-use lib.ListN.{length, length-map}
-use Rattle.lists.specs.Places.{row}
-use Rattle.chart_net.specs.Private.{end_places_at}
-use Rattle.chart_net.proofs.Kept.{ends-many, ends-none, ends_next, ends-all}
-use borrow.Author.Rules.{rules}
 use native.Mathlib.Omega.{arith}
+use borrow.Author.Rules.{rules}
+use lib.ListN.{length, take}
+use Rattle.std.proofs.lemmas.List.{length-take-le}
+use Rattle.chart_net.proofs.Kept.{ends-many, ends-none, ends_next, ends-all}
 use Rattle.chart_net.proofs.ends_for.Goals as goal
 
 pub returns-then-links-gt-MOST_LINKS : goal.returns-then-links-gt-MOST_LINKS
 returns-then-links-gt-MOST_LINKS c = ends-many c.args.links c.args.nodes c.if-links-gt-MOST_LINKS.true
 
 pub loop-i-init : goal.loop-i-init
-loop-i-init c = (omega arith, ends-none _ _)
+loop-i-init c = ends-none _ _
 
 pub loop-i-preserved : goal.loop-i-preserved
 loop-i-preserved c =
-    let whole : length c.args.links.items ≡ 48 = search rules in
     let l = c.loop-i in
-    let h = c.if-links-gt-MOST_LINKS.false in (
-      omega arith,
-      ends_next c.args.links c.args.nodes l.ends _ l.i c.link_ends-e.result (omega arith) (omega (arith, whole)) l.invariant.1 c.link_ends-e.ensures,
-    )
+    ends_next c.args.links c.args.nodes l.ends _ l.i c.link_ends.result c.if-links-gt-MOST_LINKS.false c.loop-i-test.true l.invariant c.link_ends.ensures
 
 pub returns : goal.returns
 returns c =
     let a = c.args in
     let l = c.loop-i in
-    ends-all a.links a.nodes l.ends l.i c.if-links-gt-MOST_LINKS.false (omega arith) l.invariant.1
+    let counted : length (take a.links.count a.links.items) ≡ a.links.count = search (rules, length-take-le) in
+    ends-all a.links a.nodes l.ends l.i c.if-links-gt-MOST_LINKS.false (omega (arith, counted)) l.invariant

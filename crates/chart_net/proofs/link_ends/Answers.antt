@@ -1,7 +1,6 @@
 -- `chart_net::link_ends` meets its contract: the place of each end's station.
 use mathlib.Core.Path.{◌≡◌, ap, ◌∙◌}
 use mathlib.Core.List.{[], ◌∷◌}
-use borrow.Author.Rules.{rules}
 use Rattle.address.specs.Address.{station_of}
 use Rattle.chart_net.specs.Private.{station_place_for, end_places}
 use Rattle.chart_net.proofs.link_ends.Goals as goal

@@ -1,8 +1,4 @@
 -- `chart_net::passage_of` meets its contract: the test is the definition's own, and says that the sum fits.
-use native.Mathlib.Omega.{arith}
-use borrow.Author.Tests.{leb-true}
-use lib.Dec.{leb}
-use Rattle.lists.proofs.Bools.{and_right}
 use Rattle.chart_net.specs.Private.{passage_of}
 use Rattle.chart_net.proofs.passage_of.Goals as goal
 

@@ -1,6 +1,5 @@
 -- `chart_net::place_by` meets its contract: too many nodes are 16, else the node is looked for.
 use mathlib.Core.Path.{sym, ◌∙◌}
-use borrow.Author.Rules.{rules}
 use Rattle.chart_net.proofs.Places.{place-few, place-many}
 use Rattle.chart_net.proofs.place_by.Goals as goal
 

@@ -2,7 +2,6 @@
 use mathlib.Core.Path.{sym, ap, ◌∙◌}
 use Rattle.buffer.specs.declared.Written.TheVariants.{Wrote}
 use Rattle.chart_write.proofs.Laws.{write-told, write-refused, write-short, write-wrote}
-use borrow.Author.Rules.{rules}
 use native.Mathlib.Omega.{arith}
 use Rattle.chart_write.proofs.write_chart.Goals as goal
 

@@ -3,7 +3,6 @@ use Prim.Native.Nat.{ℕ}
 use mathlib.Core.Path.{ap}
 use Rattle.class.specs.Class.{begun_at}
 use Rattle.class.proofs.Meeting.{shifted}
-use borrow.Author.Rules.{rules}
 use Rattle.class.proofs.begun.Goals as goal
 
 pub returns : goal.returns

@@ -1,7 +1,6 @@
 -- `class::came_to` meets its contract: the node is met where its digit is in the word.
 use Rattle.class.specs.Class.{came_to}
 use Rattle.class.proofs.Meeting.{shifted, met-there, met-nowhere}
-use borrow.Author.Rules.{rules}
 use Rattle.class.proofs.came_to.Goals as goal
 
 pub returns-then-m-here-ne0 : goal.returns-then-m-here-ne0

@@ -1,9 +1,6 @@
--- `class::run` meets its contract. The loop's invariant: the nodes so far are the first of the way, and the steps that are left come to the others.
-use Prim.Native.Nat.{◌<◌}
-use native.Mathlib.Omega.{arith}
+-- `class::run` meets its contract: a step that comes to a node lengthens the way.
 use Rattle.class.specs.Calls.{tables_in}
-use Rattle.class.proofs.Passing.{Halfway, goes_first, goes, goes_over, goes-nowhere, gone}
-use borrow.Author.Rules.{rules}
+use Rattle.class.proofs.Passing.{goes_first, goes_over, goes-nowhere, gone}
 use Rattle.class.proofs.run.Goals as goal
 use Rattle.class.proofs.run.Goals.{then-m, else-m}
 

@@ -1,10 +1,6 @@
--- `class::run` meets its contract. The loop's invariant: the nodes so far are the first of the way, and the steps that are left come to the others.
-use Prim.Native.Nat.{◌<◌}
-use mathlib.Core.Logic.{⊎_elim}
-use native.Mathlib.Omega.{arith}
+-- The nodes so far are the first of the way, and the steps that are left come to the others.
 use Rattle.class.specs.Calls.{tables_in}
-use Rattle.class.proofs.Passing.{Halfway, goes_first, goes, goes_over, goes-nowhere, gone}
-use borrow.Author.Rules.{rules}
+use Rattle.class.proofs.Passing.{Halfway}
 use Rattle.class.proofs.run.Given as goal
 
 abbrev pub invariant-loop-m : goal.invariant-loop-m

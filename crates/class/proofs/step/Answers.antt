@@ -1,11 +1,9 @@
 -- `class::step` meets its contract: the chart's number, then the class's, then the message a step on.
 use mathlib.Core.Path.{sym, ap, ◌∙◌}
-use Rattle.chart_refuse.specs.Promises.{Accepted}
 use Rattle.class.specs.declared.Message.{Message}
 use Rattle.class.specs.declared.Sent.{Sent}
 use Rattle.class.specs.Calls.{step_refusal, step_of}
 use Rattle.class.proofs.Calling.{by-chart, by-class, by-neither, read_right, can-go, step_number, unsent, stepped_on}
-use borrow.Author.Rules.{rules}
 use native.Mathlib.Omega.{arith}
 use Rattle.class.proofs.step.Goals as goal
 
@@ -19,8 +17,7 @@ returns-then-read-ne0 c =
 
 pub class_refusal-refusal-requires : goal.class_refusal-refusal-requires
 class_refusal-refusal-requires c =
-    let ok : Accepted c.read_chart-read.result.chart = let chart = c.args.chart.now in
-    read_right chart (λ i. omega (arith, c.type_inv.chart i)) c.read_chart-read.ensures c.if-read-ne0.false in
+    let ok = read_right c.args.chart.now (λ i. omega (arith, c.type_inv.chart i)) c.read_chart-read.ensures c.if-read-ne0.false in
     ok.few_nodes
 
 pub returns-then-refusal-ne0 : goal.returns-then-refusal-ne0
@@ -34,8 +31,7 @@ returns-then-refusal-ne0 c =
 
 pub step_on-message-requires : goal.step_on-message-requires
 step_on-message-requires c =
-    let ok : Accepted c.read_chart-read.result.chart = let chart = c.args.chart.now in
-    read_right chart (λ i. omega (arith, c.type_inv.chart i)) c.read_chart-read.ensures c.if-read-ne0.false in
+    let ok = read_right c.args.chart.now (λ i. omega (arith, c.type_inv.chart i)) c.read_chart-read.ensures c.if-read-ne0.false in
     let a = c.args in
     let chart = c.read_chart-read.result.chart in
     let right = ok in

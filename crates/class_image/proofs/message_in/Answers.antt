@@ -1,6 +1,5 @@
 -- `class_image::message_in` meets its contract: the five bytes, put into `message_in`.
 use Rattle.class_image.specs.Message.{message_in}
-use borrow.Author.Rules.{rules}
 use Rattle.class_image.proofs.message_in.Goals as goal
 
 pub returns : goal.returns

@@ -3,9 +3,8 @@ use mathlib.Core.Path.{sym, ap, ◌∙◌}
 use native.Mathlib.Omega.{arith}
 use lib.ListN.{length}
 use Rattle.address.specs.Address.{address_of, station_of}
-use Rattle.class.proofs.Telling.{PassedOn, passed_on}
+use Rattle.class.proofs.Telling.{passed_on}
 use Rattle.class_pass_door.proofs.Laws.{fits, pass-refused, pass-short, pass-written}
-use borrow.Author.Rules.{rules}
 use Rattle.class_pass_door.proofs.pz_pass.Goals as goal
 
 pub overflow_cast-place : goal.overflow_cast-place
@@ -23,25 +22,23 @@ returns-then-way-lt-LONGEST_WAY c =
     let a = c.args in
     pass-short a.chart.now a.tables.now (address_of a.to_brigade a.to_node a.to_port) (station_of (address_of a.brigade a.node 0)) a.way.now c.pass-p.ensures c.if-p-ne0.false c.if-way-lt-LONGEST_WAY.true
 
-pub slice_bounds-came-end : goal.slice_bounds-came-end
-slice_bounds-came-end c =
-    let came-to : PassedOn c.args.chart.now c.args.tables.now (address_of c.args.to_brigade c.args.to_node c.args.to_port) (station_of (address_of c.args.brigade c.args.node 0)) c.pass-p.result = passed_on _ _ _ _ (λ i. omega (arith, c.type_inv.chart i)) c.pass-p.ensures c.if-p-ne0.false in
-    let t = came-to in
+pub shared_ref_as_front-put_all : goal.shared_ref_as_front-put_all
+shared_ref_as_front-put_all c =
+    let t = passed_on _ _ _ _ (λ i. omega (arith, c.type_inv.chart i)) c.pass-p.ensures c.if-p-ne0.false in
     omega (arith, t.few, t.places)
 
 pub slice_bounds-put_all-end : goal.slice_bounds-put_all-end
 slice_bounds-put_all-end c =
-    let came-to : PassedOn c.args.chart.now c.args.tables.now (address_of c.args.to_brigade c.args.to_node c.args.to_port) (station_of (address_of c.args.brigade c.args.node 0)) c.pass-p.result = passed_on _ _ _ _ (λ i. omega (arith, c.type_inv.chart i)) c.pass-p.ensures c.if-p-ne0.false in
-    let t = came-to in
+    let t = passed_on _ _ _ _ (λ i. omega (arith, c.type_inv.chart i)) c.pass-p.ensures c.if-p-ne0.false in
     sym (ap length t.nodes ∙ sym t.count)
 
 pub overflow_cast-places : goal.overflow_cast-places
 overflow_cast-places c =
-    let came-to : PassedOn c.args.chart.now c.args.tables.now (address_of c.args.to_brigade c.args.to_node c.args.to_port) (station_of (address_of c.args.brigade c.args.node 0)) c.pass-p.result = passed_on _ _ _ _ (λ i. omega (arith, c.type_inv.chart i)) c.pass-p.ensures c.if-p-ne0.false in
-    omega (arith, came-to.few)
+    let t = passed_on _ _ _ _ (λ i. omega (arith, c.type_inv.chart i)) c.pass-p.ensures c.if-p-ne0.false in
+    omega (arith, t.few)
 
 pub returns : goal.returns
 returns c =
-    let came-to : PassedOn c.args.chart.now c.args.tables.now (address_of c.args.to_brigade c.args.to_node c.args.to_port) (station_of (address_of c.args.brigade c.args.node 0)) c.pass-p.result = passed_on _ _ _ _ (λ i. omega (arith, c.type_inv.chart i)) c.pass-p.ensures c.if-p-ne0.false in
+    let t = passed_on _ _ _ _ (λ i. omega (arith, c.type_inv.chart i)) c.pass-p.ensures c.if-p-ne0.false in
     let a = c.args in
-    pass-written a.chart.now a.tables.now (address_of a.to_brigade a.to_node a.to_port) (station_of (address_of a.brigade a.node 0)) a.way.now c.pass-p.ensures c.if-p-ne0.false c.if-way-lt-LONGEST_WAY.false came-to c.put_all.ensures
+    pass-written a.chart.now a.tables.now (address_of a.to_brigade a.to_node a.to_port) (station_of (address_of a.brigade a.node 0)) a.way.now c.pass-p.ensures c.if-p-ne0.false c.if-way-lt-LONGEST_WAY.false t c.put_all.ensures

@@ -10,7 +10,6 @@ use Rattle.envelope_read.specs.declared.Fault.{Fault}
 use Rattle.envelope_read.specs.Private.{whole_fault, value_place}
 use Rattle.envelope_read.proofs.Laws.{refusal-broken, Judges, judges, place-of-values, read-broken, read_whole, read_told}
 use native.Mathlib.Omega.{arith}
-use borrow.Author.Rules.{rules}
 use Rattle.envelope_read.proofs.read_frame.Goals as goal
 
 pub returns-then-broken-ne0 : goal.returns-then-broken-ne0

@@ -1,7 +1,6 @@
 -- `envelope_read::value_place` meets its contract: by cases on the number.
 use borrow.Author.Tests.{ne_eqb}
 use Rattle.envelope_read.specs.Private.{value_place}
-use borrow.Author.Rules.{rules}
 use Rattle.envelope_read.proofs.value_place.Goals as goal
 
 pub returns-in-4 : goal.returns-in-4

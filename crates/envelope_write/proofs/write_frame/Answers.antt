@@ -6,7 +6,6 @@ use Rattle.address.specs.Address.{zero_address}
 use Rattle.buffer.specs.declared.Written.TheVariants.{Wrote}
 use Rattle.envelope_write.proofs.RefuseLaws.{ready}
 use Rattle.envelope_write.proofs.Laws.{bytes-stored, write-told, write-refused, write-wrote}
-use borrow.Author.Rules.{rules}
 use Rattle.envelope_write.proofs.write_frame.Goals as goal
 
 pub returns-then-k-ne0 : goal.returns-then-k-ne0

@@ -1,7 +1,6 @@
 -- `ledger_answer::answered` meets its contract: by whether the reply says wait.
 use Rattle.lists.proofs.Bools.{told-true, told-false}
 use Rattle.ledger_answer.proofs.Laws.{leg-waits, leg-settles}
-use borrow.Author.Rules.{rules}
 use Rattle.ledger_answer.proofs.answered.Goals as goal
 
 pub returns-then-waits : goal.returns-then-waits

@@ -1,6 +1,5 @@
 -- `ledger_answer::settled` meets its contract: the leg with the reply's standing and no ticks.
 use Rattle.ledger_answer.specs.Answer.{settled}
-use borrow.Author.Rules.{rules}
 use Rattle.ledger_answer.proofs.settled.Goals as goal
 
 pub returns : goal.returns

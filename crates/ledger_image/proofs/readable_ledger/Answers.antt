@@ -1,7 +1,6 @@
 -- `ledger_image::readable_ledger` meets its contract: the length, the count and the legs that count, in turn.
 use borrow.Author.Tests.{le-leb, lt-leb}
 use Rattle.ledger_image.specs.Ledger.{readable_ledger}
-use borrow.Author.Rules.{rules}
 use Rattle.ledger_image.proofs.readable_ledger.Goals as goal
 
 pub returns-then-b-lt-LEDGER_SIZE : goal.returns-then-b-lt-LEDGER_SIZE

@@ -1,6 +1,6 @@
 -- `ledger_tick::tick` meets its contract: `tick_first` of the legs that count, put back into the ledger.
 use mathlib.Core.Path.{◌∙◌, ap}
-use Rattle.lists.proofs.Bools.{told-no, told-yes}
+use Rattle.lists.proofs.Bools.{told-false, told-true}
 use Rattle.lists.proofs.Lists.{many-first}
 use Rattle.ledger.proofs.Laws.{obedient}
 use Rattle.ledger_tick.specs.declared.TickedLegs.{TickedLegs}
@@ -8,18 +8,17 @@ use Rattle.ledger_tick.specs.declared.Ticked.{Ticked}
 use Rattle.ledger_tick.specs.Tick.{times_out, ticked_ledger}
 use Rattle.ledger_tick.proofs.Laws.{tick-60, tick-0}
 use native.Mathlib.Omega.{arith}
-use borrow.Author.Rules.{rules}
 use Rattle.ledger_tick.proofs.tick.Goals as goal
 
 pub returns-then-not-obeys : goal.returns-then-not-obeys
-returns-then-not-obeys c = tick-60 c.args.l (told-no c.obeys.ensures c.if-not-obeys.true)
+returns-then-not-obeys c = tick-60 c.args.l (told-false c.obeys.ensures c.if-not-obeys.true)
 
 pub tick_first-t-requires : goal.tick_first-t-requires
-tick_first-t-requires c = (obedient c.args.l (told-yes c.obeys.ensures c.if-not-obeys.false)).few
+tick_first-t-requires c = (obedient c.args.l (told-true c.obeys.ensures c.if-not-obeys.false)).few
 
 pub overflow_cast-result : goal.overflow_cast-result
 overflow_cast-result c =
-    let o = obedient c.args.l (told-yes c.obeys.ensures c.if-not-obeys.false) in
+    let o = obedient c.args.l (told-true c.obeys.ensures c.if-not-obeys.false) in
     let e = ap (λ (t : TickedLegs). t.ended) c.tick_first-t.ensures in
     let m = many-first times_out c.args.l.count c.args.l.legs in
     record { fits = omega (arith, o.few) }
@@ -28,4 +27,4 @@ pub returns : goal.returns
 unfolding ticked_ledger
 returns c =
     ap {B = Ticked} (λ (t : TickedLegs). record { refusal = 0; ended = t.ended; ledger = record { count = c.args.l.count; legs = t.legs } }) c.tick_first-t.ensures
-    ∙ tick-0 c.args.l (told-yes c.obeys.ensures c.if-not-obeys.false)
+    ∙ tick-0 c.args.l (told-true c.obeys.ensures c.if-not-obeys.false)

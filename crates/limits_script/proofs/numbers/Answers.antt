@@ -1,22 +1,16 @@
--- `limits_script::numbers` meets its contract. The loop's invariant: the bytes from i on make the line's numbers of those read so far.
+-- `limits_script::numbers` meets its contract: each byte does to the numbers what the definition says.
 use Prim.Native.Nat.{◌<◌}
 use mathlib.Core.Path.{refl, sym, ◌∙◌}
 use lib.ListN.{length}
 use Rattle.limits_script.specs.Private.{no_digit, numbers_of}
 use native.Mathlib.Omega.{arith}
 use Rattle.limits_script.proofs.Laws.{numbers-end, numbers-blank, numbers-stop, numbers-digit}
+use Rattle.limits_script.proofs.numbers.Goals.{then-c-eq32, else-c-eq32+else-c}
 use Rattle.limits_script.proofs.numbers.Goals as goal
 
 pub loop-i-init : goal.loop-i-init
 unfolding numbers_of
 loop-i-init c = (omega arith, refl)
-
-pub loop-i-preserved-then-c-eq32 : goal.loop-i-preserved-then-c-eq32
-loop-i-preserved-then-c-eq32 c =
-    let l = c.loop-i in
-    let t = c.args.line.now in
-    let h : l.i < length t = omega arith in
-    (omega arith, l.invariant.1 ∙ numbers-blank l.v l.k t l.i h c.if-c-eq32.true)
 
 pub returns-then-c : goal.returns-then-c
 unfolding no_digit
@@ -32,7 +26,10 @@ loop-i-preserved c =
     let l = c.loop-i in
     let t = c.args.line.now in
     let h : l.i < length t = omega arith in
-    (l.invariant.0, rw c.longer.ensures (l.invariant.1 ∙ numbers-digit l.v l.k t l.i h c.if-c-eq32.false c.if-c.false))
+    elim c.if-c-eq32.branch [
+      | then-c-eq32 w ↦ rw (w.k-is, w.v-is) (omega arith, l.invariant.1 ∙ numbers-blank l.v l.k t l.i h w.if-c-eq32.true)
+      | else-c-eq32+else-c w ↦ rw (w.k-is, w.v-is, w.longer.ensures) (l.invariant.0, l.invariant.1 ∙ numbers-digit l.v l.k t l.i h w.if-c-eq32.false w.if-c.false)
+    ]
 
 pub returns : goal.returns
 returns c =

@@ -1,11 +1,7 @@
--- `route_ahead::ahead` meets its contract: the flood comes to those nodes that are not met from which the goal is reached over such nodes, and each turn goes
--- on from one of them for good. A link to one of them begins a route; all links to them are live when it has ended.
-use mathlib.Core.Path.{◌≡◌, subst}
-use Prim.Native.Nat.{ℕ, suc, ◌-◌, ◌^◌, ◌<◌}
-use native.Mathlib.Omega.{arith}
-use borrow.Author.Rules.{rules}
-use lib.Count.{count_trailing_zeros}
-use Rattle.route_ahead.proofs.Looking.{Flood, Next, next-node, goes_on, ended, starts, turns, turn_small, all-worth, end-worth, no-goal}
+-- The flood comes to those nodes that are not met from which the goal is reached over such nodes, and each turn goes on from one of them for good. A link to one
+-- of them begins a route; all links to them are live when it has ended.
+use Prim.Native.Nat.{◌^◌, ◌<◌}
+use Rattle.route_ahead.proofs.Looking.{Flood}
 use Rattle.route_ahead.proofs.ahead.Given as goal
 
 abbrev pub invariant-loop-front : goal.invariant-loop-front

@@ -1,5 +1,4 @@
 -- `route_ahead::ahead_of_some` meets its contract: where there is but one link, that is the one which begins a route; else it asks for the flood.
-use borrow.Author.Rules.{rules}
 use Rattle.route_ahead.proofs.Looking.{no-links, one-worth}
 use Rattle.route_ahead.proofs.ahead_of_some.Goals as goal
 

@@ -1,8 +1,6 @@
 -- `route_ahead::reaches` meets its contract: the empty route leads from the goal to itself; from another node a route begins with a link that the look ahead
 -- keeps.
-use borrow.Author.Rules.{rules}
 use mathlib.Core.Path.{refl}
-use native.Mathlib.Omega.{arith}
 use Rattle.route_ahead.proofs.Going.{here-reaches, kept-reaches, reaches-kept}
 use Rattle.route_ahead.proofs.reaches.Goals as goal
 

@@ -1,9 +1,7 @@
--- `route_fewest::first_link` meets its contract: after k rounds `seen` has the nodes from which the other is at most k links away, and the first round in which
+-- `route_fewest::first_link` meets its contract: the other node itself has no first link; else the first round in which one is found has it.
 use Prim.Native.Nat.{◌<◌}
-use native.Mathlib.Omega.{arith}
-use borrow.Author.Rules.{rules}
 use Rattle.route_ahead.proofs.Looking.{goes_on, ended}
-use Rattle.route_fewest.proofs.Searching.{Searched, place-fits, search-here, search-starts, search-found, search-on, search-ends}
+use Rattle.route_fewest.proofs.Searching.{search-here, search-starts, search-found, search-on, search-ends}
 use Rattle.route_fewest.proofs.first_link.Goals as goal
 
 pub returns-then-from-to : goal.returns-then-from-to

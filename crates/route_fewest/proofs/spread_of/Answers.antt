@@ -1,12 +1,9 @@
 -- `route_fewest::spread_of` meets its contract: each turn takes one node for good, and what is gathered with what the nodes left bring is the whole.
 use mathlib.Core.Path.{◌≡◌}
-use native.Mathlib.Omega.{arith}
 use borrow.Author.Rules.{rules}
 use lib.Count.{count_trailing_zeros}
-use lib.ListN.{length}
-use Rattle.route_links.specs.Sets.{places_in}
 use Rattle.route_ahead.proofs.Looking.{Next, next-node}
-use Rattle.route_fewest.proofs.Gathering.{Gathered, gather-starts, gather-turns, gather-less, gather-ends}
+use Rattle.route_fewest.proofs.Gathering.{gather-starts, gather-turns, gather-less, gather-ends}
 use Rattle.route_fewest.proofs.spread_of.Goals as goal
 
 pub loop-rest-init : goal.loop-rest-init

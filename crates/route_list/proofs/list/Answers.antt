@@ -3,12 +3,11 @@
 use Prim.Native.Nat.{◌*◌}
 use mathlib.Core.Path.{sym, ap}
 use native.Mathlib.Omega.{arith}
-use borrow.Author.Rules.{rules}
 use borrow.Author.Tests.{not-true, not-false}
 use lib.ListN.{length}
 use lib.Seq.{length-take-le}
 use Rattle.route_links.proofs.Table.{table-holds}
-use Rattle.route_list.proofs.Telling.{room_fits, room_small, list-many, list-placeless, list-roomless, list-nowhere, lists_more, list_all}
+use Rattle.route_list.proofs.Telling.{room_fits, room_small, list-many, list-placeless, list-roomless, list-nowhere, lists}
 use Rattle.route_list.proofs.Turns.{start-walking}
 use mathlib.Core.Bool.{not}
 use Rattle.route_list.proofs.list.Goals as goal
@@ -67,16 +66,6 @@ walk_on-n-requires c =
     let g = c.reaches in
     start-walking t.result a.from _ g.result (table-holds a.ends a.ways a.links a.to t.result t.ensures).walkable c.if-from-ge-MOST_NODES.false g.ensures (not-false _ (ap not c.if-not-reaches.false))
 
-pub returns-then-room-n : goal.returns-then-room-n
-returns-then-room-n c =
-    let a = c.args in
-    let t = c.links_by_node-t in
-    let r = c.slot_room-room in
-    let w = c.walk_on-n in
-    let w = lists_more a.ends a.ways a.links a.from a.to a.out.now c.if-links.false c.if-from-ge-MOST_NODES.false r.result r.ensures c.if-room-eq0.false t.result t.ensures
-    (record { bytes = w.new.out; count = w.result }) w.ensures c.if-room-n.true in
-    record { value = w.0; bytes = w.1 }
-
 pub returns : goal.returns
 returns c =
     let a = c.args in
@@ -84,6 +73,6 @@ returns c =
     let r = c.slot_room-room in
     let g = c.reaches in
     let w = c.walk_on-n in
-    let w = list_all a.ends a.ways a.links a.from a.to a.out.now c.if-links.false c.if-from-ge-MOST_NODES.false r.result r.ensures c.if-room-eq0.false t.result t.ensures
-    (record { bytes = w.new.out; count = w.result }) w.ensures g.result g.ensures (not-false _ (ap not c.if-not-reaches.false)) c.if-room-n.false in
-    record { value = w.0; bytes = w.1 }
+    let w = lists a.ends a.ways a.links a.from a.to a.out.now c.if-links.false c.if-from-ge-MOST_NODES.false r.result r.ensures c.if-room-eq0.false t.result t.ensures
+    (record { bytes = w.new.out; count = w.result }) w.ensures g.result g.ensures (not-false _ (ap not c.if-not-reaches.false)) in
+    record { value = rw c.min.ensures w.0; bytes = w.1 }

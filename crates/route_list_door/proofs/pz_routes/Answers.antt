@@ -10,10 +10,10 @@ overflow_cast-place c =
     let p = near a.chart.now a.slots.now c.read_chart-read.ensures (λ i. omega (arith, c.type_inv.chart i)) in
     omega arith
 
-pub returns-then-refusal-ne0 : goal.returns-then-refusal-ne0
-returns-then-refusal-ne0 c =
+pub returns-then-read-ne0 : goal.returns-then-read-ne0
+returns-then-read-ne0 c =
     let a = c.args in
-    unread a.chart.now a.slots.now c.read_chart-read.ensures c.if-refusal-ne0.true
+    unread a.chart.now a.slots.now c.read_chart-read.ensures c.if-read-ne0.true
 
 pub overflow_cast-count : goal.overflow_cast-count
 overflow_cast-count c =
@@ -23,4 +23,4 @@ overflow_cast-count c =
 pub returns : goal.returns
 returns c =
     let a = c.args in
-    read a.chart.now a.slots.now c.read_chart-read.ensures (λ i. omega (arith, c.type_inv.chart i)) c.if-refusal-ne0.false (c.list_known-l.ensures.value, c.list_known-l.ensures.bytes)
+    read a.chart.now a.slots.now c.read_chart-read.ensures (λ i. omega (arith, c.type_inv.chart i)) c.if-read-ne0.false (c.list_known-l.ensures.value, c.list_known-l.ensures.bytes)

@@ -4,8 +4,8 @@ use borrow.Author.Rules.{rules}
 use native.Mathlib.Omega.{arith}
 use Rattle.route_next_door.proofs.pz_next.Goals as goal
 
-pub returns-then-refusal-ne0 : goal.returns-then-refusal-ne0
-returns-then-refusal-ne0 c = next-unread c.args.chart.now c.args.route.now c.read_chart-read.ensures c.args.length c.if-refusal-ne0.true
+pub returns-then-read-ne0 : goal.returns-then-read-ne0
+returns-then-read-ne0 c = next-unread c.args.chart.now c.args.route.now c.read_chart-read.ensures c.args.length c.if-read-ne0.true
 
 pub returns : goal.returns
-returns c = next-read c.args.chart.now c.args.route.now c.read_chart-read.ensures (λ i. omega (arith, c.type_inv.chart i)) c.args.length c.if-refusal-ne0.false c.one_number.ensures c.next_known.ensures.value c.next_known.ensures.bytes
+returns c = next-read c.args.chart.now c.args.route.now c.read_chart-read.ensures (λ i. omega (arith, c.type_inv.chart i)) c.args.length c.if-read-ne0.false c.one_number.ensures c.next_known.ensures.value c.next_known.ensures.bytes

@@ -1,16 +1,12 @@
 -- `route_search::first_route` meets its contract: 26, 28 and 42 in their turn, 43 where no route leads from the first node; else what walking on from the
 -- first node finds is the first of all routes.
-use mathlib.Core.Path.{◌≡◌, ap, ◌∙◌}
+use mathlib.Core.Path.{ap, ◌∙◌}
 use mathlib.Core.List.{List}
 use Prim.Native.Nat.{ℕ}
-use lib.ListN.{length}
-use borrow.Author.Rules.{rules}
 use borrow.Author.Tests.{not-true, not-false}
 use Rattle.route.specs.All.{first_of}
-use Rattle.route_links.specs.Private.{routes_on}
 use Rattle.route_search.specs.Answers.{first_route}
 use Rattle.route_search.specs.Private.{routes_over, found_at}
-use Rattle.route_search.proofs.Finding.{found-len}
 use Rattle.route_search.proofs.Telling.{first-many, first-placeless, first_small, first-told, first-nowhere, all_join, begins-on, carried}
 use mathlib.Core.Bool.{not}
 use Rattle.route_search.proofs.first_route.Goals as goal

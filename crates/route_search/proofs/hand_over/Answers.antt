@@ -1,10 +1,5 @@
 -- `route_search::hand_over` meets its contract: a refusal's number is told, else the route's first links are put at the buffer's start.
-use mathlib.Core.Path.{sym, ap, ◌∙◌}
-use Prim.Native.Nat.{◌≤◌}
-use native.Mathlib.Omega.{arith}
-use lib.ListN.{length}
-use lib.Seq.{length-take-le}
-use borrow.Author.Rules.{rules}
+use mathlib.Core.Path.{ap, ◌∙◌}
 use Rattle.route_search.specs.Answers.{Told}
 use Rattle.route_search.proofs.Telling.{handed-none, handed-route}
 use Rattle.route_search.proofs.hand_over.Goals as goal

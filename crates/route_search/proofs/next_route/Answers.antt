@@ -1,16 +1,11 @@
 -- `route_search::next_route` meets its contract: 26, 28, 42 and 41 in their turn; else what `later` finds is the one after the given route among all.
-use mathlib.Core.Path.{◌≡◌, sym, ap, ◌∙◌}
+use mathlib.Core.Path.{ap, ◌∙◌}
 use mathlib.Core.List.{List}
-use Prim.Native.Nat.{ℕ, ◌≤◌}
-use native.Mathlib.Omega.{arith}
-use lib.ListN.{length, take}
-use lib.Seq.{length-take-le}
-use borrow.Author.Rules.{rules}
+use Prim.Native.Nat.{ℕ}
+use lib.ListN.{take}
 use Rattle.route.specs.All.{next_of}
-use Rattle.route_links.specs.Private.{routes_on}
 use Rattle.route_search.specs.Answers.{next_route}
 use Rattle.route_search.specs.Private.{routes_over, found_at}
-use Rattle.route_search.proofs.Finding.{found-len}
 use Rattle.route_search.proofs.Telling.{next-many, next-placeless, next_small, next-over, next-told, all_join, begins, carried}
 use Rattle.route_search.proofs.next_route.Goals as goal
 

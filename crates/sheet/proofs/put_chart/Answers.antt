@@ -1,5 +1,4 @@
 -- `sheet::put_chart` meets its contract: what the calls lay is joined in the sheet's order.
-use borrow.Author.Rules.{rules}
 use Rattle.chart_refuse.proofs.Accepted.{accepted}
 use Rattle.text.proofs.Joining.{◌▸◌}
 use Rattle.sheet.specs.Sheet.{chart_text}

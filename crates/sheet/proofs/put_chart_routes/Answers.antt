@@ -1,6 +1,5 @@
 -- `sheet::put_chart_routes` meets its contract: the arrays of an accepted chart have its routes.
 use mathlib.Core.Path.{ap}
-use borrow.Author.Rules.{rules}
 use Rattle.text.proofs.Joining.{said}
 use Rattle.sheet_routes.specs.RouteLines.{list_text}
 use Rattle.sheet.proofs.Laws.{kept-listed}

@@ -1,5 +1,4 @@
 -- `sheet::put_read` meets its contract: the refusal's line, or the chart's sheet.
-use borrow.Author.Rules.{rules}
 use Rattle.text.proofs.Joining.{said}
 use Rattle.sheet.proofs.Laws.{read-refused, read-chart}
 use Rattle.sheet.proofs.put_read.Goals as goal

@@ -1,6 +1,5 @@
 -- `sheet::put_sheet` meets its contract: one line for a long input; a chart that is read is accepted.
 use mathlib.Core.Path.{ap, ◌∙◌}
-use borrow.Author.Rules.{rules}
 use Rattle.text.proofs.Joining.{said}
 use Rattle.sheet.specs.Sheet.{read_text}
 use Rattle.sheet.proofs.Laws.{read-accepted, input-long, input-read}
@@ -11,7 +10,7 @@ pub returns-then-bytes-gt-LONGEST_INPUT : goal.returns-then-bytes-gt-LONGEST_INP
 returns-then-bytes-gt-LONGEST_INPUT c = said (input-long c.args.bytes.now c.if-bytes-gt-LONGEST_INPUT.true) c.put_bytes.ensures
 
 pub put_read-requires : goal.put_read-requires
-put_read-requires c = read-accepted c.args.bytes.now (λ i. omega (arith, c.type_inv.bytes i)) c.read_chart-r.result c.read_chart-r.ensures
+put_read-requires c = read-accepted c.args.bytes.now (λ i. omega (arith, c.type_inv.bytes i)) c.read_chart.result c.read_chart.ensures
 
 pub returns : goal.returns
-returns c = said (ap read_text c.read_chart-r.ensures ∙ input-read c.args.bytes.now c.if-bytes-gt-LONGEST_INPUT.false) c.put_read.ensures
+returns c = said (ap read_text c.read_chart.ensures ∙ input-read c.args.bytes.now c.if-bytes-gt-LONGEST_INPUT.false) c.put_read.ensures

@@ -1,7 +1,6 @@
 -- `sheet_lines::put_direction` meets its contract: one word for each direction.
 use Rattle.text.proofs.Joining.{said}
 use Rattle.sheet_lines.proofs.Directions.{word-both, word_out, word_back}
-use borrow.Author.Rules.{rules}
 use Rattle.sheet_lines.proofs.put_direction.Goals as goal
 
 pub returns-then-d-eq-BOTH_WAYS : goal.returns-then-d-eq-BOTH_WAYS

@@ -2,7 +2,6 @@
 use mathlib.Core.List.{append_assoc}
 use Rattle.text.proofs.Joining.{said, ◌▸◌}
 use Rattle.sheet_lines.specs.Lines.{end_text}
-use borrow.Author.Rules.{rules}
 use Rattle.sheet_lines.proofs.put_end.Goals as goal
 
 pub returns : goal.returns

@@ -2,7 +2,6 @@
 use mathlib.Core.List.{append_assoc}
 use Rattle.text.proofs.Joining.{said, ◌▸◌}
 use Rattle.sheet_lines.specs.Lines.{question_line}
-use borrow.Author.Rules.{rules}
 use Rattle.sheet_lines.proofs.put_question.Goals as goal
 
 pub returns : goal.returns

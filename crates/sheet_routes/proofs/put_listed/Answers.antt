@@ -1,5 +1,4 @@
 -- `sheet_routes::put_listed` meets its contract: the lines of the slots, and the last line by the answer.
-use borrow.Author.Rules.{rules}
 use Rattle.text.proofs.Joining.{said, ◌▸◌}
 use Rattle.sheet_routes.proofs.Routes.{listed-over, listed-whole}
 use Rattle.sheet_routes.proofs.put_listed.Goals as goal

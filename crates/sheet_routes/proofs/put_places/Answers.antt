@@ -1,13 +1,6 @@
--- `sheet_routes::put_places` meets its contract. The loop's invariant: the places from i on, laid from here, give the whole.
-use Prim.Native.Nat.{◌≤◌, ◌-◌, ◌+◌, min}
-use mathlib.Core.Path.{◌≡◌, refl}
+-- `sheet_routes::put_places` meets its contract: a place more is laid in each turn.
 use native.Mathlib.Omega.{arith}
-use borrow.Author.Rules.{rules}
-use lib.ListN.{length, drop}
-use lib.Seq.{sets}
-use Rattle.text.specs.Private.{Laid, last}
-use Rattle.sheet_routes.specs.RouteLines.{places_text}
-use Rattle.text.proofs.Joining.{whole, done, ◌▸◌}
+use Rattle.text.proofs.Joining.{done, ◌▸◌}
 use Rattle.sheet_routes.proofs.Routes.{places-none, place-on}
 use Rattle.sheet_routes.proofs.put_places.Goals as goal
 

@@ -2,7 +2,6 @@
 use mathlib.Core.Path.{refl}
 use mathlib.Core.Logic.{inl, inr}
 use native.Mathlib.Omega.{arith}
-use borrow.Author.Rules.{rules}
 use Rattle.lists.proofs.Bools.{no-not}
 use Rattle.text.proofs.Joining.{said}
 use Rattle.route_list.specs.Listing.{slot_room}

@@ -1,20 +1,13 @@
--- `sheet_routes::put_slots` meets its contract. The loop's invariant: the lines of the slots from k on, laid from here, give the whole.
-use Prim.Native.Nat.{◌≤◌, ◌-◌, ◌+◌, ◌*◌, min}
-use mathlib.Core.Path.{◌≡◌, refl}
-use native.Mathlib.Omega.{arith}
-use borrow.Author.Rules.{rules}
+-- The lines of the slots from k on, laid from here, give the whole.
+use Prim.Native.Nat.{◌≤◌, ◌-◌, ◌+◌, min}
+use mathlib.Core.Path.{◌≡◌}
 use lib.ListN.{length}
 use lib.Seq.{sets}
 use Rattle.text.specs.Private.{Laid, last}
-use Rattle.text.proofs.Joining.{whole, done, said}
 use Rattle.sheet_routes.specs.Private.{routes_from, lines_text}
-use Rattle.sheet_routes.proofs.Routes.{lines_start, lines_none, line_on, route-line}
 use Rattle.sheet_routes.proofs.put_slots.Given as goal
 
 abbrev pub invariant-loop-k : goal.invariant-loop-k
 invariant-loop-k l =
     let text = lines_text (routes_from l.slots 0 l.n) in
-    (length l.out ≡ length l.initial.out) × (l.next ≤ last) × (l.k ≤ l.n) × Laid l.out l.next (lines_text (routes_from l.slots l.k (l.n - l.k))) (sets l.initial.out l.at text) (min (l.at + length text) last)
-
-abbrev pub decreases-loop-k : goal.decreases-loop-k
-decreases-loop-k l = l.n - l.k
+    (length l.out ≡ length l.initial.out) × (l.next ≤ last) × Laid l.out l.next (lines_text (routes_from l.slots l.k (l.n - l.k))) (sets l.initial.out l.at text) (min (l.at + length text) last)

@@ -1,5 +1,4 @@
--- `table_image::any_stray` meets its contract. The loop's invariant: no place before i is stray.
-use Prim.Native.Nat.{◌≤◌, ◌-◌}
+-- No place before the one that is looked at is stray.
 use mathlib.Core.Path.{◌≡◌}
 use mathlib.Core.Bool.{false}
 use Rattle.lists.specs.Places.{any_below}
@@ -7,8 +6,4 @@ use Rattle.table_image.specs.Table.{stray_entry_held}
 use Rattle.table_image.proofs.any_stray.Given as goal
 
 abbrev pub invariant-loop-i : goal.invariant-loop-i
-invariant-loop-i l =
-    (l.i ≤ l.n) × (any_below (stray_entry_held l.b) l.i ≡ false)
-
-abbrev pub decreases-loop-i : goal.decreases-loop-i
-decreases-loop-i l = l.n - l.i
+invariant-loop-i l = any_below (stray_entry_held l.b) l.i ≡ false

@@ -4,4 +4,4 @@ use Rattle.table_image.proofs.entry_in.Goals as goal
 
 pub returns : goal.returns
 unfolding entry_in
-returns c = rw (c.target_of-target.ensures, c.word_at-node.ensures)
+returns c = rw (c.target_of.ensures, c.word_at.ensures)

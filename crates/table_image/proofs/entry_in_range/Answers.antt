@@ -1,7 +1,6 @@
 -- `table_image::entry_in_range` meets its contract: the bytes, the port, the kind and the node, in turn.
-use Prim.Native.Nat.{◌+◌}
 use mathlib.Core.Path.{sym, ◌∙◌}
-use native.Mathlib.Omega.{arith}
+use borrow.Author.Rules.{rules}
 use Rattle.table_image.proofs.InImage.{stray-unranged, port-unranged, kind-ranged, node-ranged}
 use Rattle.table_image.proofs.entry_in_range.Goals as goal
 
@@ -15,4 +14,4 @@ pub returns-then-b-at-ne0 : goal.returns-then-b-at-ne0
 returns-then-b-at-ne0 c = kind-ranged _ _ (sym c.stray_entry.ensures ∙ c.if-stray_entry.false) c.if-port.false c.if-b-at-ne0.true
 
 pub returns : goal.returns
-returns c = node-ranged _ _ (sym c.stray_entry.ensures ∙ c.if-stray_entry.false) c.if-port.false c.if-b-at-ne0.false (omega (arith, c.shared_slice_known-1.given (c.args.at + 1))) c.word_at.ensures
+returns c = node-ranged _ _ (sym c.stray_entry.ensures ∙ c.if-stray_entry.false) c.if-port.false c.if-b-at-ne0.false (search rules) c.word_at.ensures

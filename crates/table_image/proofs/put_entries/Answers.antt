@@ -1,5 +1,5 @@
--- `table_image::put_entries` meets its contract. The loop's invariant: the entries before i are stored.
-use mathlib.Core.Path.{◌≡◌, refl, ◌∙◌}
+-- `table_image::put_entries` meets its contract: the entries that the loop sees are the table's own.
+use mathlib.Core.Path.{◌≡◌, ◌∙◌}
 use native.Mathlib.Omega.{arith}
 use lib.ListN.{length}
 use Rattle.lists.proofs.Places.{joined-none}
@@ -11,13 +11,12 @@ use borrow.Author.Rules.{rules}
 use Rattle.table_image.proofs.put_entries.Goals as goal
 
 pub loop-i-init : goal.loop-i-init
-loop-i-init c = (omega arith, rw joined-none, refl)
+loop-i-init c = rw joined-none
 
 pub loop-i-preserved : goal.loop-i-preserved
 loop-i-preserved c =
-    let whole : length c.args.t.entries ≡ most_entries = search rules in
-    let l = c.loop-i in (
-      omega arith,
-      rw c.entry_bytes-b.ensures at c.put_all.ensures ∙ joined-put-row entry_bytes (entry_at c.args.t) entry_size length-entry c.args.image.now _ entries_start l.i (entry_read c.args.t _ l.i (omega (arith, whole))) l.invariant.1,
-      omega (arith, c.put_all.auto.out, l.invariant.2),
-    )
+    let t = c.args.t in
+    let whole : length t.entries ≡ most_entries = search rules in
+    let l = c.loop-i in
+    rw c.entry_bytes.ensures at c.put_all.ensures
+    ∙ joined-put-row entry_bytes (entry_at t) entry_size length-entry c.args.image.now _ entries_start l.i (entry_read t _ l.i (omega (arith, whole))) l.invariant

@@ -4,7 +4,6 @@ use Rattle.lists.proofs.Bools.{told-true, told-false}
 use Rattle.address.specs.declared.Station.{Station}
 use Rattle.address.specs.Address.{same_station}
 use Rattle.table_write.proofs.Filling.{near_first, near-second}
-use borrow.Author.Rules.{rules}
 use Rattle.table_write.proofs.near_end.Goals as goal
 
 pub returns-then-same_station : goal.returns-then-same_station

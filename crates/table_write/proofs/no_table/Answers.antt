@@ -1,8 +1,7 @@
 -- `table_write::no_table` meets its contract: there is no entry at any place.
 use Rattle.table_write.specs.Writing.{table_with, no_table}
-use borrow.Author.Rules.{rules}
 use Rattle.table_write.proofs.no_table.Goals as goal
 
 pub returns : goal.returns
 unfolding no_table table_with
-returns c = rw c.no_entry-none.ensures
+returns c = rw c.no_entry.ensures

@@ -1,16 +1,15 @@
 -- `table_write::write_known` meets its contract: 44 where the place found is no node's, else the table over what is kept.
 use mathlib.Core.Path.{◌∙◌}
 use Rattle.table_write.proofs.Known.{known-none, known-few, known-table}
-use borrow.Author.Rules.{rules}
 use Rattle.table_write.proofs.write_known.Goals as goal
 
-pub returns-then-nodes-a : goal.returns-then-nodes-a
-returns-then-nodes-a c = let a = c.args in c.no_table.ensures ∙ known-none a.c a.s c.place_of-a.ensures c.if-nodes-a.true
+pub returns-then-c-a : goal.returns-then-c-a
+returns-then-c-a c = let a = c.args in c.no_table.ensures ∙ known-none a.c a.s c.place_of-a.ensures c.if-c-a.true
 
-pub table_over-table-requires : goal.table_over-table-requires
-table_over-table-requires c = let a = c.args in known-few a.c a.s c.place_of-a.ensures c.if-nodes-a.false
+pub table_over-requires : goal.table_over-requires
+table_over-requires c = let a = c.args in known-few a.c a.s c.place_of-a.ensures c.if-c-a.false
 
 pub returns : goal.returns
 returns c =
     let a = c.args in
-    known-table a.c a.s c.place_of-a.ensures c.if-nodes-a.false c.ends_of-ends.ensures c.passages_for-ways.ensures c.first_links-first.ensures c.table_over-table.ensures
+    known-table a.c a.s c.place_of-a.ensures c.if-c-a.false c.ends_of-ends.ensures c.passages_for-ways.ensures c.first_links-first.ensures c.table_over.ensures

@@ -1,7 +1,6 @@
 -- `table_write::write_table` meets its contract: the chart's number, else the table of a chart that is right.
 use mathlib.Core.Path.{sym, ◌∙◌}
 use Rattle.table_write.proofs.Known.{written-refused, written_known}
-use borrow.Author.Rules.{rules}
 use Rattle.table_write.proofs.write_table.Goals as goal
 
 pub returns-then-refusal-ne0 : goal.returns-then-refusal-ne0

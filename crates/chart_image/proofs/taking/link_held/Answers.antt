@@ -2,7 +2,6 @@
 use borrow.Author.Tests.{lt-ltb, le-ltb}
 use mathlib.Core.Path.{◌∙◌}
 use Rattle.chart_image.specs.Image.{link_held}
-use borrow.Author.Rules.{rules}
 use Rattle.chart_image.proofs.taking.link_held.Goals as goal
 
 pub returns-then-on-gt1 : goal.returns-then-on-gt1
@@ -11,4 +10,4 @@ returns-then-on-gt1 c = c.no_link.ensures ∙ rw (lt-ltb 1 _ (rw c.byte_at-on.en
 
 pub returns : goal.returns
 unfolding link_held
-returns c = rw (le-ltb 1 _ (rw c.byte_at-on.ensures at c.if-on-gt1.false), c.byte_at-on.ensures, c.address_in-from.ensures, c.address_in-to.ensures, c.byte_at-direction.ensures)
+returns c = rw (le-ltb 1 _ (rw c.byte_at-on.ensures at c.if-on-gt1.false), c.byte_at-on.ensures, c.address_in.ensures, c.address_in-2.ensures, c.byte_at.ensures)

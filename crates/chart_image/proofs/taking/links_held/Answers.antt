@@ -1,18 +1,15 @@
--- `chart_image::links_held` meets its contract. The loop's invariant: the first i links are in the row.
-use Prim.Native.Nat.{◌≤◌, ◌-◌}
-use mathlib.Core.Path.{◌≡◌, sym}
+-- `chart_image::links_held` meets its contract: one link more is in the row.
+use mathlib.Core.Path.{sym}
 use native.Mathlib.Omega.{arith}
-use Rattle.lists.specs.Places.{row}
 use Rattle.lists.proofs.Places.{row-none, row_next}
 use Rattle.chart.specs.Values.{no_link}
 use Rattle.chart_image.specs.Image.{link_held}
-use borrow.Author.Rules.{rules}
 use Rattle.chart_image.proofs.taking.links_held.Goals as goal
 
 pub loop-i-init : goal.loop-i-init
-loop-i-init c = (omega arith, rw c.no_link-none.ensures (sym (row-none 48 no_link (link_held c.args.b.now))))
+loop-i-init c = rw c.no_link-items.ensures (sym (row-none 48 no_link (link_held c.args.b.now)))
 
 pub loop-i-preserved : goal.loop-i-preserved
 loop-i-preserved c =
     let l = c.loop-i in
-    (omega arith, rw (c.link_held-e.ensures, l.invariant.1) (row_next 48 no_link (link_held c.args.b.now) l.i (omega arith)))
+    rw (c.link_held.ensures, l.invariant) (row_next 48 no_link (link_held c.args.b.now) l.i (omega arith))

@@ -1,16 +1,11 @@
--- `chart_read::bodies::label_in` meets its contract. The loop's invariant: the first i bytes are in the row.
-use Prim.Native.Nat.{◌≤◌, ◌-◌}
-use mathlib.Core.Path.{◌≡◌, sym}
-use Rattle.lists.specs.Places.{row}
-use Rattle.lists.proofs.Places.{row-none, row_next}
-use Rattle.chart_read.specs.Fields.{bytes_from}
-use borrow.Author.Rules.{rules}
+-- `chart_read::bodies::label_in` meets its contract: the row begins with the bytes that are copied.
+use mathlib.Core.Path.{◌≡◌}
+use Prim.Native.Nat.{◌+◌, ◌-◌}
 use native.Mathlib.Omega.{arith}
+use Rattle.chart_read.proofs.Laws.{label-row}
 use Rattle.chart_read.proofs.bodies.label_in.Goals as goal
 
-pub loop-i-init : goal.loop-i-init
-loop-i-init c = (omega arith, sym (row-none 24 0 (bytes_from c.args.b.now 3)))
-
-pub loop-i-preserved : goal.loop-i-preserved
-unfolding bytes_from
-loop-i-preserved c = (omega arith, rw c.loop-i.invariant.1 (row_next 24 0 (bytes_from c.args.b.now 3) c.loop-i.i (omega arith)))
+pub returns : goal.returns
+returns c =
+    let e : 3 + c.args.n - 3 ≡ c.args.n = omega arith in
+    rw (c.copy_from_slice.ensures.after, e) (label-row c.args.b.now 3 c.args.n (omega arith))

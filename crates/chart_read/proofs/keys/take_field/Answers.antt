@@ -1,14 +1,11 @@
 -- `chart_read::keys::take_field` meets its contract: a field that is cut short is 21, else its tag decides, and then its body.
-use Prim.Native.Nat.{ℕ, ◌≤◌}
-use mathlib.Core.Path.{◌≡◌, refl}
-use mathlib.Core.List.{List}
+use Prim.Native.Nat.{◌≤◌}
+use mathlib.Core.Path.{refl}
 use native.Mathlib.Omega.{arith}
 use lib.ListN.{length}
 use borrow.Author.Tests.{ne_eqb}
-use borrow.Author.Rules.{rules}
-use Rattle.chart_read.specs.Fields.{tag_at, past_field}
+use Rattle.chart_read.specs.Fields.{past_field}
 use Rattle.chart_read.specs.Reading.{body_refusal}
-use Rattle.chart_read.specs.Private.{Keys, as_keys, Takes, TakesField}
 use Rattle.chart_read.proofs.Laws.{form-tag, no-form, field_cut, field-whole, tag-later}
 use Rattle.chart_read.proofs.Taking.{field-takes, field-refused}
 use Rattle.chart_read.proofs.keys.take_field.Goals as goal
@@ -23,34 +20,18 @@ pub take_link-requires : goal.take_link-requires
 take_link-requires c = form-tag _ c.in-2.is
 
 pub returns-in-1 : goal.returns-in-1
-returns-in-1 c =
-    let before : Keys = as_keys c.args.keys.now c.args.akeys.now c.args.bkeys.now c.args.counts in
-    let input : List ℕ = c.args.bytes.now in
-    let whole : past_field input c.args.at ≤ length input = omega (arith, c.past_field.ensures, c.if-bytes-past_field.false) in
-    let by-tag : (tag : ℕ) → tag_at input c.args.at ≡ tag → (k : ℕ) (u : Keys) → Takes before tag c.body_at-b.result.now k u → TakesField before input c.args.at k u = λ tag g. field-takes before input c.args.at whole tag g _ c.body_at-b.ensures in
-    by-tag 1 c.in-1.is _ _ (c.take_node.ensures _ _)
+returns-in-1 c = field-takes _ _ _ c.past_field.ensures c.if-bytes-past_field.false c.in-1.is c.body_at-b.ensures (c.take_node.ensures _ _)
 
 pub returns-in-2 : goal.returns-in-2
-returns-in-2 c =
-    let before : Keys = as_keys c.args.keys.now c.args.akeys.now c.args.bkeys.now c.args.counts in
-    let input : List ℕ = c.args.bytes.now in
-    let whole : past_field input c.args.at ≤ length input = omega (arith, c.past_field.ensures, c.if-bytes-past_field.false) in
-    let by-tag : (tag : ℕ) → tag_at input c.args.at ≡ tag → (k : ℕ) (u : Keys) → Takes before tag c.body_at-b.result.now k u → TakesField before input c.args.at k u = λ tag g. field-takes before input c.args.at whole tag g _ c.body_at-b.ensures in
-    by-tag _ refl _ _ c.take_link.ensures
+returns-in-2 c = field-takes _ _ _ c.past_field.ensures c.if-bytes-past_field.false refl c.body_at-b.ensures c.take_link.ensures
 
 pub returns-in-3 : goal.returns-in-3
-returns-in-3 c =
-    let before : Keys = as_keys c.args.keys.now c.args.akeys.now c.args.bkeys.now c.args.counts in
-    let input : List ℕ = c.args.bytes.now in
-    let whole : past_field input c.args.at ≤ length input = omega (arith, c.past_field.ensures, c.if-bytes-past_field.false) in
-    let by-tag : (tag : ℕ) → tag_at input c.args.at ≡ tag → (k : ℕ) (u : Keys) → Takes before tag c.body_at-b.result.now k u → TakesField before input c.args.at k u = λ tag g. field-takes before input c.args.at whole tag g _ c.body_at-b.ensures in
-    by-tag 3 c.in-3.is _ _ (c.take_question.ensures _ _)
+returns-in-3 c = field-takes _ _ _ c.past_field.ensures c.if-bytes-past_field.false c.in-3.is c.body_at-b.ensures (c.take_question.ensures _ _)
 
 pub returns-in_default : goal.returns-in_default
 unfolding body_refusal
 returns-in_default c =
-    let input : List ℕ = c.args.bytes.now in
-    let whole : past_field input c.args.at ≤ length input = omega (arith, c.past_field.ensures, c.if-bytes-past_field.false) in
+    let whole : past_field c.args.bytes.now c.args.at ≤ length c.args.bytes.now = omega (arith, c.past_field.ensures, c.if-bytes-past_field.false) in
     let r = c.in_default.in_default-own.rest in
     field-refused _ _ _ 21
     (field-whole _ _ _ 22 whole (tag-later _ (ne_eqb _ _ r.0.0.1) (tag-later _ (no-form _ r.0.1) (tag-later _ (ne_eqb _ _ r.1) refl))))

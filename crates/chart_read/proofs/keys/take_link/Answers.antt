@@ -1,9 +1,6 @@
 -- `chart_read::keys::take_link` meets its contract: where the body's number is 0 there is room, and the keys of its ends stand in the next place.
-use mathlib.Core.Path.{◌≡◌, sym, ◌∙◌}
+use mathlib.Core.Path.{sym, ◌∙◌}
 use native.Mathlib.Omega.{arith}
-use borrow.Author.Rules.{rules}
-use Rattle.chart_refuse.specs.Private.{link_refusal_by_keys}
-use Rattle.chart_read.specs.Reading.{link_body_refusal}
 use Rattle.chart_read.specs.Private.{as_keys, link_late_by, link_after_keys, refusing_by, with_link_keys}
 use Rattle.chart_read.proofs.Laws.{link-number, link-length-bounds, link-bounds}
 use Rattle.chart_read.proofs.Taking.{takes_none, takes_one, link-room, link-keys}
@@ -17,45 +14,39 @@ returns-then-refusal-ne0 c =
     takes_none t a.form a.b.now _ (c.link_body_refusal-refusal.ensures ∙ link-number (refusing_by t) a.form a.b.now c.requires) c.if-refusal-ne0.true
 
 pub link_in-link-requires : goal.link_in-link-requires
-unfolding link_late_by
 link_in-link-requires c =
-    let zero : let a = c.args in link_body_refusal a.form (link_refusal_by_keys (link_late_by a.counts a.form) a.form a.keys.now a.counts.nodes a.akeys.now a.bkeys.now a.counts.links) a.b.now ≡ 0 = sym c.link_body_refusal-refusal.ensures ∙ c.if-refusal-ne0.false in
+    let zero = sym c.link_body_refusal-refusal.ensures ∙ c.if-refusal-ne0.false in
     omega (arith, (link-bounds _ _ _ zero).0, (link-length-bounds c.args.form).0)
 
 pub offset_bounds-akeys-m : goal.offset_bounds-akeys-m
-unfolding link_late_by
 offset_bounds-akeys-m c =
-    let zero : let a = c.args in link_body_refusal a.form (link_refusal_by_keys (link_late_by a.counts a.form) a.form a.keys.now a.counts.nodes a.akeys.now a.bkeys.now a.counts.links) a.b.now ≡ 0 = sym c.link_body_refusal-refusal.ensures ∙ c.if-refusal-ne0.false in
+    let zero = sym c.link_body_refusal-refusal.ensures ∙ c.if-refusal-ne0.false in
     record { fits = omega (arith, link-room _ _ _ _ _ _ _ _ zero) }
 
 pub bounds-akeys-m : goal.bounds-akeys-m
-unfolding link_late_by
 bounds-akeys-m c =
-    let zero : let a = c.args in link_body_refusal a.form (link_refusal_by_keys (link_late_by a.counts a.form) a.form a.keys.now a.counts.nodes a.akeys.now a.bkeys.now a.counts.links) a.b.now ≡ 0 = sym c.link_body_refusal-refusal.ensures ∙ c.if-refusal-ne0.false in
+    let zero = sym c.link_body_refusal-refusal.ensures ∙ c.if-refusal-ne0.false in
     link-room _ _ _ _ _ _ _ _ zero
 
 pub offset_bounds-bkeys-m : goal.offset_bounds-bkeys-m
-unfolding link_late_by
 offset_bounds-bkeys-m c =
-    let zero : let a = c.args in link_body_refusal a.form (link_refusal_by_keys (link_late_by a.counts a.form) a.form a.keys.now a.counts.nodes a.akeys.now a.bkeys.now a.counts.links) a.b.now ≡ 0 = sym c.link_body_refusal-refusal.ensures ∙ c.if-refusal-ne0.false in
+    let zero = sym c.link_body_refusal-refusal.ensures ∙ c.if-refusal-ne0.false in
     record { fits = omega (arith, link-room _ _ _ _ _ _ _ _ zero) }
 
 pub bounds-bkeys-m : goal.bounds-bkeys-m
-unfolding link_late_by
 bounds-bkeys-m c =
-    let zero : let a = c.args in link_body_refusal a.form (link_refusal_by_keys (link_late_by a.counts a.form) a.form a.keys.now a.counts.nodes a.akeys.now a.bkeys.now a.counts.links) a.b.now ≡ 0 = sym c.link_body_refusal-refusal.ensures ∙ c.if-refusal-ne0.false in
+    let zero = sym c.link_body_refusal-refusal.ensures ∙ c.if-refusal-ne0.false in
     link-room _ _ _ _ _ _ _ _ zero
 
 pub overflow_add-result : goal.overflow_add-result
-unfolding link_late_by
 overflow_add-result c =
-    let zero : let a = c.args in link_body_refusal a.form (link_refusal_by_keys (link_late_by a.counts a.form) a.form a.keys.now a.counts.nodes a.akeys.now a.bkeys.now a.counts.links) a.b.now ≡ 0 = sym c.link_body_refusal-refusal.ensures ∙ c.if-refusal-ne0.false in
+    let zero = sym c.link_body_refusal-refusal.ensures ∙ c.if-refusal-ne0.false in
     record { fits = omega (arith, link-room _ _ _ _ _ _ _ _ zero) }
 
 pub returns : goal.returns
 unfolding refusing_by link_after_keys with_link_keys link_late_by
 returns c =
-    let zero : let a = c.args in link_body_refusal a.form (link_refusal_by_keys (link_late_by a.counts a.form) a.form a.keys.now a.counts.nodes a.akeys.now a.bkeys.now a.counts.links) a.b.now ≡ 0 = sym c.link_body_refusal-refusal.ensures ∙ c.if-refusal-ne0.false in
+    let zero = sym c.link_body_refusal-refusal.ensures ∙ c.if-refusal-ne0.false in
     let a = c.args in
     let t = as_keys a.keys.now a.akeys.now a.bkeys.now a.counts in
     takes_one t a.form a.b.now (sym (link-number (refusing_by t) a.form a.b.now c.requires) ∙ zero) _

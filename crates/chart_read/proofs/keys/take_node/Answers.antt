@@ -1,11 +1,7 @@
 -- `chart_read::keys::take_node` meets its contract: where the body's number is 0 there is room, and its key stands in the next place.
-use mathlib.Core.Path.{◌≡◌, sym, ◌∙◌}
-use mathlib.Core.Bool.{◌||◌}
+use mathlib.Core.Path.{sym, ◌∙◌}
 use native.Mathlib.Omega.{arith}
-use lib.Dec.{ltb}
-use borrow.Author.Rules.{rules}
-use Rattle.chart_refuse.specs.Private.{node_refusal_by_keys}
-use Rattle.chart_read.specs.Reading.{node_body_refusal, body_refusal}
+use Rattle.chart_read.specs.Reading.{body_refusal}
 use Rattle.chart_read.specs.Private.{as_keys, refusing_by, with_node_key, keys_with}
 use Rattle.chart_read.proofs.Laws.{node-bounds}
 use Rattle.chart_read.proofs.Taking.{takes_none, takes_one, node-room}
@@ -19,28 +15,28 @@ returns-then-refusal-ne0 c akeys bkeys =
 
 pub node_in-node-requires : goal.node_in-node-requires
 node_in-node-requires c =
-    let zero : let a = c.args in node_body_refusal (node_refusal_by_keys (a.counts.asked || ltb 0 a.counts.links) a.keys.now a.counts.nodes) a.b.now ≡ 0 = sym c.node_body_refusal-refusal.ensures ∙ c.if-refusal-ne0.false in
+    let zero = sym c.node_body_refusal-refusal.ensures ∙ c.if-refusal-ne0.false in
     let p = node-bounds _ _ zero in (p.0, p.1)
 
 pub offset_bounds-keys-n : goal.offset_bounds-keys-n
 offset_bounds-keys-n c =
-    let zero : let a = c.args in node_body_refusal (node_refusal_by_keys (a.counts.asked || ltb 0 a.counts.links) a.keys.now a.counts.nodes) a.b.now ≡ 0 = sym c.node_body_refusal-refusal.ensures ∙ c.if-refusal-ne0.false in
+    let zero = sym c.node_body_refusal-refusal.ensures ∙ c.if-refusal-ne0.false in
     record { fits = omega (arith, node-room _ _ _ _ zero) }
 
 pub bounds-keys-n : goal.bounds-keys-n
 bounds-keys-n c =
-    let zero : let a = c.args in node_body_refusal (node_refusal_by_keys (a.counts.asked || ltb 0 a.counts.links) a.keys.now a.counts.nodes) a.b.now ≡ 0 = sym c.node_body_refusal-refusal.ensures ∙ c.if-refusal-ne0.false in
+    let zero = sym c.node_body_refusal-refusal.ensures ∙ c.if-refusal-ne0.false in
     node-room _ _ _ _ zero
 
 pub overflow_add-result : goal.overflow_add-result
 overflow_add-result c =
-    let zero : let a = c.args in node_body_refusal (node_refusal_by_keys (a.counts.asked || ltb 0 a.counts.links) a.keys.now a.counts.nodes) a.b.now ≡ 0 = sym c.node_body_refusal-refusal.ensures ∙ c.if-refusal-ne0.false in
+    let zero = sym c.node_body_refusal-refusal.ensures ∙ c.if-refusal-ne0.false in
     record { fits = omega (arith, node-room _ _ _ _ zero) }
 
 pub returns : goal.returns
 unfolding body_refusal refusing_by keys_with with_node_key
 returns c akeys bkeys =
-    let zero : let a = c.args in node_body_refusal (node_refusal_by_keys (a.counts.asked || ltb 0 a.counts.links) a.keys.now a.counts.nodes) a.b.now ≡ 0 = sym c.node_body_refusal-refusal.ensures ∙ c.if-refusal-ne0.false in
+    let zero = sym c.node_body_refusal-refusal.ensures ∙ c.if-refusal-ne0.false in
     let a = c.args in
     let t = as_keys a.keys.now akeys bkeys a.counts in
     takes_one t 1 a.b.now zero _ (rw (c.station_key.ensures.key, c.node_in-node.ensures))

@@ -1,6 +1,5 @@
 -- `chart_read::keys::take_question` meets its contract: where the body's number is 0 the question is counted.
 use mathlib.Core.Path.{refl, sym, ◌∙◌}
-use borrow.Author.Rules.{rules}
 use Rattle.chart_read.specs.Fields.{is_form}
 use Rattle.chart_read.specs.Reading.{body_refusal}
 use Rattle.chart_read.specs.Private.{as_keys, refusing_by, with_asked, keys_with}

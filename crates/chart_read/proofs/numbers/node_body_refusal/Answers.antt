@@ -4,7 +4,6 @@ use borrow.Author.Tests.{lt-ltb, le-ltb}
 use Rattle.lists.proofs.Chains.{stops, passes}
 use Rattle.chart_refuse.specs.Private.{node_refusal_by_keys}
 use Rattle.chart_read.specs.Reading.{node_body_refusal}
-use borrow.Author.Rules.{rules}
 use Rattle.chart_read.proofs.numbers.node_body_refusal.Goals as goal
 
 pub returns-then-b-lt-SHORTEST_NODE : goal.returns-then-b-lt-SHORTEST_NODE

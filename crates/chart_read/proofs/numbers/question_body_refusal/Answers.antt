@@ -5,7 +5,6 @@ use borrow.Author.Tests.{eq-eqb, ne_eqb}
 use Rattle.lists.proofs.Chains.{stops, passes}
 use Rattle.chart_refuse.specs.Private.{question_refusal_by_keys}
 use Rattle.chart_read.specs.Reading.{question_body_refusal}
-use borrow.Author.Rules.{rules}
 use Rattle.chart_read.proofs.numbers.question_body_refusal.Goals as goal
 
 pub returns-then-b-ne-QUESTION_LENGTH : goal.returns-then-b-ne-QUESTION_LENGTH

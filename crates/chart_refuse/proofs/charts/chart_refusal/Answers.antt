@@ -1,6 +1,6 @@
 -- `chart_refuse::chart_refusal` meets its contract: the counts decide, then the first bad value.
-use Prim.Native.Nat.{ℕ, ◌≤◌}
-use mathlib.Core.Path.{◌≡◌, sym, ◌∙◌}
+use Prim.Native.Nat.{◌≤◌}
+use mathlib.Core.Path.{sym, ◌∙◌}
 use native.Mathlib.Omega.{arith}
 use borrow.Author.Tests.{lt-ltb, le-ltb}
 use Rattle.lists.proofs.Chains.{stops, passes, or-stops, or-passes}
@@ -20,23 +20,26 @@ returns-then-links-gt-MOST_LINKS c = passes 26 (le-ltb _ _ c.if-nodes-gt-MOST_NO
 pub returns-then-k-ne0 : goal.returns-then-k-ne0
 unfolding chart_values_refusal chart_refusal
 returns-then-k-ne0 c =
-    let counted : (r : ℕ) → r ≡ chart_values_refusal c.args.c → r ≡ chart_refusal c.args.c = λ r e. passes 26 (le-ltb _ _ c.if-nodes-gt-MOST_NODES.false) (passes 26 (le-ltb _ _ c.if-links-gt-MOST_LINKS.false) e) in
-    counted _ (or-stops _ c.nodes_refusal-k.ensures c.if-k-ne0.true)
+    passes 26 (le-ltb _ _ c.if-nodes-gt-MOST_NODES.false)
+    (passes 26 (le-ltb _ _ c.if-links-gt-MOST_LINKS.false)
+    (or-stops _ c.nodes_refusal-k.ensures c.if-k-ne0.true))
 
 pub returns-then-k-ne0-2 : goal.returns-then-k-ne0-2
 unfolding chart_values_refusal chart_refusal
 returns-then-k-ne0-2 c =
-    let counted : (r : ℕ) → r ≡ chart_values_refusal c.args.c → r ≡ chart_refusal c.args.c = λ r e. passes 26 (le-ltb _ _ c.if-nodes-gt-MOST_NODES.false) (passes 26 (le-ltb _ _ c.if-links-gt-MOST_LINKS.false) e) in
-    counted _ (or-passes (sym c.nodes_refusal-k.ensures ∙ c.if-k-ne0.false) (or-stops _ c.links_refusal-k.ensures c.if-k-ne0-2.true))
+    passes 26 (le-ltb _ _ c.if-nodes-gt-MOST_NODES.false)
+    (passes 26 (le-ltb _ _ c.if-links-gt-MOST_LINKS.false)
+    (or-passes (sym c.nodes_refusal-k.ensures ∙ c.if-k-ne0.false)
+    (or-stops _ c.links_refusal-k.ensures c.if-k-ne0-2.true)))
 
 pub returns : goal.returns
 unfolding chart_values_refusal chart_refusal
 returns c =
     let from-fits : c.args.c.from.node.0 ≤ 65535 = omega arith in
     let to-fits : c.args.c.to.node.0 ≤ 65535 = omega arith in
-    let counted : (r : ℕ) → r ≡ chart_values_refusal c.args.c → r ≡ chart_refusal c.args.c = λ r e. passes 26 (le-ltb _ _ c.if-nodes-gt-MOST_NODES.false) (passes 26 (le-ltb _ _ c.if-links-gt-MOST_LINKS.false) e) in
     let keyed : KeyedNodes c.args.c.nodes c.station_keys-keys.result = keyed-of _ _ c.if-nodes-gt-MOST_NODES.false c.station_keys-keys.ensures in
-    counted _
+    passes 26 (le-ltb _ _ c.if-nodes-gt-MOST_NODES.false)
+    (passes 26 (le-ltb _ _ c.if-links-gt-MOST_LINKS.false)
     (or-passes (sym c.nodes_refusal-k.ensures ∙ c.if-k-ne0.false)
     (or-passes (sym c.links_refusal-k.ensures ∙ c.if-k-ne0-2.false)
-    (c.question_refusal.ensures ∙ question-keyed c.args.c.nodes _ keyed _ c.args.c.from c.args.c.to from-fits to-fits)))
+    (c.question_refusal.ensures ∙ question-keyed c.args.c.nodes _ keyed _ c.args.c.from c.args.c.to from-fits to-fits))))

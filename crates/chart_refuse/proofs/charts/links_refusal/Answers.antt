@@ -1,27 +1,29 @@
--- `chart_refuse::links_refusal` meets its contract. The loop's invariant: no link before i has a number.
+-- `chart_refuse::charts::links_refusal` meets its contract: the number at a place, by the keys of the nodes and of the links before it, is the link's own.
 use mathlib.Core.Path.{◌≡◌, sym, ◌∙◌}
 use native.Mathlib.Omega.{arith}
-use lib.ListN.{length}
+use lib.ListN.{length, take}
 use borrow.Author.Rules.{rules}
+use Rattle.std.proofs.lemmas.List.{length-take-le}
 use Rattle.lists.proofs.Chains.{refusal-none, refusal-more, refusal-found}
 use Rattle.chart_refuse.specs.Refusal.{link_refusal_at}
 use Rattle.chart_refuse.proofs.Laws.{link-refusal-read}
 use Rattle.chart_refuse.proofs.charts.links_refusal.Goals as goal
 
 pub loop-i-init : goal.loop-i-init
-loop-i-init c = (omega arith, refusal-none _)
+loop-i-init c = refusal-none _
 
 pub returns-then-k-ne0 : goal.returns-then-k-ne0
 returns-then-k-ne0 c =
-    let whole : length c.args.links.items ≡ 48 = search rules in
+    let a = c.args in
+    let counted : length (take a.links.count a.links.items) ≡ a.links.count = search (rules, length-take-le) in
     let l = c.loop-i in
     let h = c.loop-i-test.true in
-    let e = c.link_refusal-k.ensures ∙ link-refusal-read c.args.nodes c.args.keys.now c.requires.1 c.args.links c.args.akeys.now c.args.bkeys.now c.requires.2 _ l.i h (omega (arith, whole)) in
-    e ∙ sym (refusal-found (link_refusal_at c.args.nodes c.args.links) c.args.links.count l.i h l.invariant.1 (λ z. c.if-k-ne0.true (e ∙ z)))
+    let e = c.link_refusal-k.ensures ∙ link-refusal-read a.nodes a.keys.now c.requires.1 a.links a.akeys.now a.bkeys.now c.requires.2 _ l.i h in
+    e ∙ sym (refusal-found (link_refusal_at a.nodes a.links) a.links.count l.i (omega (arith, counted, h)) l.invariant (λ z. c.if-k-ne0.true (e ∙ z)))
 
 pub loop-i-preserved : goal.loop-i-preserved
 loop-i-preserved c =
-    let whole : length c.args.links.items ≡ 48 = search rules in
+    let a = c.args in
     let l = c.loop-i in
-    let h = c.loop-i-test.true in
-    (omega arith, refusal-more (link_refusal_at c.args.nodes c.args.links) l.i l.invariant.1 (sym (c.link_refusal-k.ensures ∙ link-refusal-read c.args.nodes c.args.keys.now c.requires.1 c.args.links c.args.akeys.now c.args.bkeys.now c.requires.2 _ l.i h (omega (arith, whole))) ∙ c.if-k-ne0.false))
+    refusal-more (link_refusal_at a.nodes a.links) l.i l.invariant
+    (sym (c.link_refusal-k.ensures ∙ link-refusal-read a.nodes a.keys.now c.requires.1 a.links a.akeys.now a.bkeys.now c.requires.2 _ l.i c.loop-i-test.true) ∙ c.if-k-ne0.false)

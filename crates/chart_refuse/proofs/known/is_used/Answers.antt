@@ -1,10 +1,16 @@
--- `chart_refuse::known::is_used` meets its contract: the first ends, or the second.
-use mathlib.Core.Path.{ap₂, ◌∙◌}
+-- `chart_refuse::known::is_used` meets its contract: the key of the end, among the first m of either row.
+use mathlib.Core.Path.{◌≡◌, ap₂, ◌∙◌}
 use mathlib.Core.Bool.{◌||◌}
-use Rattle.chart_refuse.proofs.ByKeys.{used-by}
+use native.Mathlib.Omega.{arith}
+use lib.ListN.{length}
+use borrow.Author.Rules.{rules}
+use Rattle.chart_refuse.proofs.ByKeys.{has-first, used-by}
 use Rattle.chart_refuse.proofs.known.is_used.Goals as goal
 
 pub returns : goal.returns
 returns c =
     let a = c.args in
-    ap₂ ◌||◌ c.has_key.ensures c.has_key-2.ensures ∙ used-by a.akeys.now a.bkeys.now a.m a.e c.end_key-k.ensures
+    let whole-a : length a.akeys.now ≡ 48 = search rules in
+    let whole-b : length a.bkeys.now ≡ 48 = search rules in
+    ap₂ ◌||◌ (c.has_key.ensures ∙ has-first a.akeys.now a.m _ (omega (arith, whole-a))) (c.has_key-2.ensures ∙ has-first a.bkeys.now a.m _ (omega (arith, whole-b)))
+    ∙ used-by a.akeys.now a.bkeys.now a.m a.e c.end_key-k.ensures

@@ -1,6 +1,5 @@
 -- `chart_write::bytes::question_body` meets its contract: two stations.
 use Rattle.chart_write.specs.Writing.{question_body}
-use borrow.Author.Rules.{rules}
 use Rattle.chart_write.proofs.bytes.question_body.Goals as goal
 
 pub returns : goal.returns

@@ -1,10 +1,8 @@
 -- `chart_write::storing::chart_size` meets its contract: the nodes' fields, a field for each link and the question's.
-use Prim.Native.Nat.{ℕ, ◌*◌, ◌≤◌}
+use Prim.Native.Nat.{ℕ, ◌*◌}
 use mathlib.Core.Path.{ap}
-use Rattle.chart_refuse.proofs.Laws.{passed}
-use Rattle.chart_write.proofs.Laws.{size-most, length-chart, short}
+use Rattle.chart_write.proofs.Laws.{length-chart, short}
 use native.Mathlib.Omega.{arith}
-use borrow.Author.Rules.{rules}
 use Rattle.chart_write.proofs.storing.chart_size.Goals as goal
 
 pub nodes_size-requires : goal.nodes_size-requires

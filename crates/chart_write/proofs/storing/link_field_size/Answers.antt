@@ -1,6 +1,5 @@
 -- `chart_write::storing::link_field_size` meets its contract: a head and a body.
 use native.Mathlib.Omega.{arith}
-use borrow.Author.Rules.{rules}
 use Rattle.chart_read.proofs.Laws.{link-length-bounds}
 use Rattle.chart_write.proofs.storing.link_field_size.Goals as goal
 

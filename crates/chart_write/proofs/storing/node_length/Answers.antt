@@ -1,7 +1,6 @@
 -- `chart_write::storing::node_length` meets its contract: the station's 3 bytes and the label's.
 use Rattle.chart_write.proofs.Laws.{length-node-body}
 use native.Mathlib.Omega.{arith}
-use borrow.Author.Rules.{rules}
 use Rattle.chart_write.proofs.storing.node_length.Goals as goal
 
 pub returns : goal.returns

@@ -29,4 +29,4 @@ returns c =
     let a = c.args in
     let n = c.put_nodes-at in
     let f = c.link_field_size in
-    chart-put a.c a.out.now _ _ _ _ n.result f.result n.ensures.0 n.ensures.1 c.put_links.ensures f.ensures.0 c.question_body-b.ensures c.put_field.ensures
+    chart-put a.c a.out.now _ _ _ _ n.result f.result n.ensures.0 n.ensures.1 c.put_links.ensures f.ensures.0 c.question_body.ensures c.put_field.ensures

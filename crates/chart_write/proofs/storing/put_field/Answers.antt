@@ -1,6 +1,5 @@
 -- `chart_write::storing::put_field` meets its contract: the head, and the body after it.
 use Rattle.chart_write.proofs.Laws.{field_put}
-use borrow.Author.Rules.{rules}
 use Rattle.chart_write.proofs.storing.put_field.Goals as goal
 
 pub returns : goal.returns

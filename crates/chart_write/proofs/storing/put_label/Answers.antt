@@ -1,9 +1,8 @@
 -- `chart_write::storing::put_label` meets its contract: the label's first n bytes are stored.
-use mathlib.Core.Path.{◌≡◌, sym, ap, ◌∙◌}
+use mathlib.Core.Path.{◌≡◌, ap, ◌∙◌}
 use lib.ListN.{length}
-use lib.Seq.{sets, length-take-le}
+use lib.Seq.{sets}
 use Rattle.lists.proofs.Runs.{firsts-take}
-use borrow.Author.Rules.{rules}
 use native.Mathlib.Omega.{arith}
 use Rattle.chart_write.proofs.storing.put_label.Goals as goal
 

@@ -7,7 +7,6 @@ use lib.Seq.{sets, length-take-le}
 use Rattle.chart_read.specs.Fields.{tagged}
 use Rattle.chart_write.specs.Writing.{link_body, link_field}
 use Rattle.chart_write.proofs.Laws.{body-cut, directed-long, directed-length, plain-length}
-use borrow.Author.Rules.{rules}
 use native.Mathlib.Omega.{arith}
 use Rattle.chart_write.proofs.storing.put_link.Goals as goal
 

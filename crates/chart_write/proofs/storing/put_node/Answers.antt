@@ -5,7 +5,6 @@ use lib.ListN.{length}
 use Rattle.chart_read.specs.Fields.{shortest_node}
 use Rattle.chart_write.specs.Writing.{head_size}
 use Rattle.chart_write.proofs.Laws.{length-node, length-node-body, node-put}
-use borrow.Author.Rules.{rules}
 use Rattle.chart_write.proofs.storing.put_node.Goals as goal
 
 pub put_head-requires : goal.put_head-requires

@@ -4,7 +4,6 @@ use Rattle.lists.proofs.Bools.{told-true, told-false}
 use Rattle.address.specs.declared.Station.{Station}
 use Rattle.address.specs.Address.{same_station}
 use Rattle.class.proofs.Leaving.{away-first, away-second}
-use borrow.Author.Rules.{rules}
 use Rattle.class.proofs.links.away_end.Goals as goal
 
 pub returns-then-same_station : goal.returns-then-same_station

@@ -1,6 +1,5 @@
 -- `class::links::leaves_first` meets its contract: its tests are the definition's.
 use Rattle.class.specs.Private.{leaves_first}
-use borrow.Author.Rules.{rules}
 use Rattle.class.proofs.links.leaves_first.Goals as goal
 
 pub returns : goal.returns

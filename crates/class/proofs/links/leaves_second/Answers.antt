@@ -1,6 +1,5 @@
 -- `class::links::leaves_second` meets its contract: its tests are the definition's.
 use Rattle.class.specs.Private.{leaves_second}
-use borrow.Author.Rules.{rules}
 use Rattle.class.proofs.links.leaves_second.Goals as goal
 
 pub returns : goal.returns

@@ -3,7 +3,6 @@ use mathlib.Core.Path.{sym, ap, ◌∙◌}
 use Rattle.table.specs.declared.Table.{Table}
 use Rattle.table.specs.Table.{choose_of}
 use Rattle.class.proofs.Held.{held}
-use borrow.Author.Rules.{rules}
 use Rattle.class.proofs.tables.choice_of.Goals as goal
 
 pub returns : goal.returns

@@ -1,5 +1,4 @@
--- `envelope::keys::first_seen` meets its contract. The loop's invariant: no key before i is that of an earlier place.
-use Prim.Native.Nat.{◌≤◌, ◌-◌}
+-- No key before i is that of an earlier place.
 use mathlib.Core.Path.{◌≡◌}
 use mathlib.Core.Bool.{false}
 use lib.Dec.{eqb}
@@ -7,8 +6,4 @@ use Rattle.lists.specs.Places.{any_below, repeat_at, element_at}
 use Rattle.envelope.proofs.keys.first_seen.Given as goal
 
 abbrev pub invariant-loop-i : goal.invariant-loop-i
-invariant-loop-i l =
-    (l.i ≤ l.n) × (any_below (repeat_at eqb (element_at 0 l.keys)) l.i ≡ false)
-
-abbrev pub decreases-loop-i : goal.decreases-loop-i
-decreases-loop-i l = l.n - l.i
+invariant-loop-i l = any_below (repeat_at eqb (element_at 0 l.keys)) l.i ≡ false

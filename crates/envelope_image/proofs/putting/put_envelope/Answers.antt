@@ -3,7 +3,6 @@ use mathlib.Core.Path.{◌∙◌}
 use native.Mathlib.Omega.{arith}
 use Rattle.envelope.specs.Frame.{destination_at}
 use Rattle.envelope_image.proofs.Laws.{image-full, image-padded}
-use borrow.Author.Rules.{rules}
 use Rattle.envelope_image.proofs.putting.put_envelope.Goals as goal
 
 pub returns-then-e-gt-MOST_DESTINATIONS : goal.returns-then-e-gt-MOST_DESTINATIONS

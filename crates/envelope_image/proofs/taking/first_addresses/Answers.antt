@@ -1,7 +1,5 @@
 -- `envelope_image::first_addresses` meets its contract. The loop's invariant: the first i destinations are in the row.
-use Prim.Native.Nat.{◌≤◌, ◌-◌}
 use mathlib.Core.Path.{◌≡◌, sym}
-use Rattle.lists.specs.Places.{row}
 use Rattle.lists.proofs.Places.{row-none, row_next}
 use Rattle.address.specs.Address.{zero_address}
 use Rattle.envelope_image.specs.Image.{destination_held}
@@ -10,11 +8,13 @@ use borrow.Author.Rules.{rules}
 use Rattle.envelope_image.proofs.taking.first_addresses.Goals as goal
 
 pub loop-i-init : goal.loop-i-init
-loop-i-init c = (omega arith, sym (row-none 63 zero_address (destination_held c.args.b.now)))
+loop-i-init c =
+    let none : c.default-addresses.result ≡ zero_address = search rules in
+    rw none (sym (row-none 63 zero_address (destination_held c.args.b.now)))
 
 pub loop-i-preserved : goal.loop-i-preserved
 unfolding destination_held
 loop-i-preserved c =
     let l = c.loop-i in
     let d = destination_held c.args.b.now in
-    (omega arith, rw (c.address_in-a.ensures, l.invariant.1) (row_next 63 zero_address d l.i (omega arith)))
+    rw (c.address_in.ensures, l.invariant) (row_next 63 zero_address d l.i (omega arith))

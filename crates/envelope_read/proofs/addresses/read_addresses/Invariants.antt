@@ -1,17 +1,9 @@
 -- `envelope_read::addresses::read_addresses` meets its contract. The loop's invariant: the first i destinations are in the row.
-use Prim.Native.Nat.{◌≤◌, ◌-◌}
-use mathlib.Core.Path.{◌≡◌, sym, ◌∙◌}
+use mathlib.Core.Path.{◌≡◌}
 use Rattle.lists.specs.Places.{row}
-use Rattle.lists.proofs.Places.{row-none, row_next}
 use Rattle.address.specs.Address.{zero_address}
 use Rattle.envelope.specs.Frame.{destination_at}
-use native.Mathlib.Omega.{arith}
-use borrow.Author.Rules.{rules}
 use Rattle.envelope_read.proofs.addresses.read_addresses.Given as goal
 
 abbrev pub invariant-loop-i : goal.invariant-loop-i
-invariant-loop-i l =
-    (l.i ≤ l.n) × (l.addresses ≡ row 63 zero_address (destination_at l.part) l.i)
-
-abbrev pub decreases-loop-i : goal.decreases-loop-i
-decreases-loop-i l = l.n - l.i
+invariant-loop-i l = l.addresses ≡ row 63 zero_address (destination_at l.part) l.i

@@ -1,6 +1,5 @@
 -- `envelope_read::frame::fields_of` meets its contract: what the address, the two words and the two bytes are, put into `fields_of`.
 use Rattle.envelope.specs.Frame.{count_of, length_of, fields_of}
-use borrow.Author.Rules.{rules}
 use Rattle.envelope_read.proofs.frame.fields_of.Goals as goal
 
 pub returns : goal.returns

@@ -1,17 +1,9 @@
 -- `envelope_read::frame::keys_in` meets its contract. The loop's invariant: the first i keys are in the row.
-use Prim.Native.Nat.{◌≤◌, ◌-◌}
-use mathlib.Core.Path.{◌≡◌, sym}
+use mathlib.Core.Path.{◌≡◌}
 use Rattle.lists.specs.Places.{row}
-use Rattle.lists.proofs.Places.{row-none, row_next}
 use Rattle.envelope.specs.Frame.{destination_at}
 use Rattle.envelope.specs.Private.{key_at}
-use native.Mathlib.Omega.{arith}
-use borrow.Author.Rules.{rules}
 use Rattle.envelope_read.proofs.frame.keys_in.Given as goal
 
 abbrev pub invariant-loop-i : goal.invariant-loop-i
-invariant-loop-i l =
-    (l.i ≤ l.n) × (l.keys ≡ row 63 0 (key_at (destination_at l.part)) l.i)
-
-abbrev pub decreases-loop-i : goal.decreases-loop-i
-decreases-loop-i l = l.n - l.i
+invariant-loop-i l = l.keys ≡ row 63 0 (key_at (destination_at l.part)) l.i

@@ -1,12 +1,9 @@
 -- `envelope_read::frame::whole_fault` meets its contract: the tests on the way say which case of `whole_fault` holds.
-use Prim.Native.Nat.{◌-◌}
 use mathlib.Core.Path.{◌≡◌, sym, ◌∙◌}
 use lib.ListN.{length}
-use lib.Seq.{length-take-le}
 use Rattle.envelope.specs.Frame.{count_of, length_of, size_of}
 use Rattle.envelope_read.proofs.Laws.{whole-1, whole-2, whole-3, whole-0}
 use native.Mathlib.Omega.{arith}
-use borrow.Author.Rules.{rules}
 use Rattle.envelope_read.proofs.frame.whole_fault.Goals as goal
 
 pub returns-then-n-size : goal.returns-then-n-size

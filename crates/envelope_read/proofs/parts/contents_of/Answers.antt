@@ -9,7 +9,6 @@ use Rattle.envelope.specs.declared.Fixed.{Fixed}
 use Rattle.envelope.specs.Frame.{fields_of}
 use Rattle.envelope.specs.Refusal.{frame_refusal}
 use native.Mathlib.Omega.{arith}
-use borrow.Author.Rules.{rules}
 use Rattle.envelope_read.proofs.parts.contents_of.Goals as goal
 
 pub returns-in_default : goal.returns-in_default

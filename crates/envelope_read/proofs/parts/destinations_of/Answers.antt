@@ -7,13 +7,12 @@ use Rattle.envelope.specs.declared.Fixed.{Fixed}
 use Rattle.envelope.specs.Frame.{count_of, fields_of}
 use Rattle.envelope.specs.Refusal.{frame_refusal}
 use native.Mathlib.Omega.{arith}
-use borrow.Author.Rules.{rules}
 use Rattle.envelope_read.proofs.parts.destinations_of.Goals as goal
 
 pub returns-in_default : goal.returns-in_default
 returns-in_default c =
     let f = c.args.frame.now in
-    rw c.no_addresses-none.ensures
+    rw c.no_addresses.ensures
     (sym (destinations-refused f (read-refused f _ _ (sym c.in_default.is ∙ c.read_frame.ensures.value)).0))
 
 pub slice_bounds-read_addresses-count : goal.slice_bounds-read_addresses-count
@@ -26,9 +25,9 @@ slice_bounds-read_addresses-start c =
     let opened : Opened (frame_refusal c.args.frame.now) c.in-Envelope.e (fields_of c.args.frame.now) = read-envelope _ _ (sym c.in-Envelope.is ∙ c.read_frame.ensures.value) in
     omega (arith, (accepted _ opened.none).frame.sized)
 
-pub read_addresses-addresses-requires : goal.read_addresses-addresses-requires
+pub read_addresses-requires : goal.read_addresses-requires
 unfolding fields_of
-read_addresses-addresses-requires c =
+read_addresses-requires c =
     let opened : Opened (frame_refusal c.args.frame.now) c.in-Envelope.e (fields_of c.args.frame.now) = read-envelope _ _ (sym c.in-Envelope.is ∙ c.read_frame.ensures.value) in
     let f = c.args.frame.now in
     let n : c.in-Envelope.e.count ≡ count_of f = ap (λ (x : Fixed). x.count) opened.same in
@@ -37,4 +36,4 @@ read_addresses-addresses-requires c =
 pub returns : goal.returns
 returns c =
     let opened : Opened (frame_refusal c.args.frame.now) c.in-Envelope.e (fields_of c.args.frame.now) = read-envelope _ _ (sym c.in-Envelope.is ∙ c.read_frame.ensures.value) in
-    destinations-cut _ _ opened c.read_addresses-addresses.ensures
+    destinations-cut _ _ opened c.read_addresses.ensures

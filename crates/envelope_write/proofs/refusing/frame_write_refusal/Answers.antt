@@ -8,7 +8,6 @@ use Rattle.envelope.specs.Private.{judged_by}
 use Rattle.envelope.proofs.Laws.{valued}
 use Rattle.envelope_write.proofs.RefuseLaws.{count-refused, values-by-keys, write-values, write-short, write-fits}
 use native.Mathlib.Omega.{arith}
-use borrow.Author.Rules.{rules}
 use Rattle.envelope_write.proofs.refusing.frame_write_refusal.Goals as goal
 
 pub returns-then-e-gt-MOST_DESTINATIONS : goal.returns-then-e-gt-MOST_DESTINATIONS

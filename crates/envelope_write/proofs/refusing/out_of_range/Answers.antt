@@ -4,7 +4,6 @@ use lib.Dec.{ltb}
 use Rattle.lists.proofs.Bools.{or_assoc}
 use Rattle.address.specs.Address.{in_range, largest_seq}
 use Rattle.envelope.specs.Refusal.{out_of_range}
-use borrow.Author.Rules.{rules}
 use Rattle.envelope_write.proofs.refusing.out_of_range.Goals as goal
 
 pub returns : goal.returns

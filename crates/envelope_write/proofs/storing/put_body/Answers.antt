@@ -2,7 +2,6 @@
 use Rattle.lists.specs.Places.{element_at}
 use Rattle.address.specs.Address.{zero_address}
 use Rattle.envelope_write.proofs.Laws.{body-puts}
-use borrow.Author.Rules.{rules}
 use Rattle.envelope_write.proofs.storing.put_body.Goals as goal
 
 pub returns : goal.returns

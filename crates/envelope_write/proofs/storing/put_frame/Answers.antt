@@ -1,11 +1,8 @@
 -- `envelope_write::storing::put_frame` meets its contract: the check character is that of the body, which stands in the buffer.
-use mathlib.Core.Path.{sym}
-use lib.Seq.{length-take-le}
 use Rattle.lists.specs.Places.{element_at}
 use Rattle.address.specs.Address.{zero_address}
 use Rattle.envelope_write.proofs.Laws.{body-stored, frame-puts}
 use native.Mathlib.Omega.{arith}
-use borrow.Author.Rules.{rules}
 use Rattle.envelope_write.proofs.storing.put_frame.Goals as goal
 
 pub returns : goal.returns

@@ -1,5 +1,4 @@
--- `ledger::keys::repeated` meets its contract. The loop's invariant: no key before i is an open leg's and that of an earlier place.
-use Prim.Native.Nat.{◌≤◌, ◌-◌}
+-- No key before i is an open leg's and that of an earlier place.
 use mathlib.Core.Path.{◌≡◌}
 use mathlib.Core.Bool.{false}
 use Rattle.lists.specs.Places.{any_below, repeat_at, element_at}
@@ -7,8 +6,4 @@ use Rattle.ledger.specs.Private.{same_key}
 use Rattle.ledger.proofs.keys.repeated.Given as goal
 
 abbrev pub invariant-loop-i : goal.invariant-loop-i
-invariant-loop-i l =
-    (l.i ≤ l.n) × (any_below (repeat_at same_key (element_at 0 l.keys)) l.i ≡ false)
-
-abbrev pub decreases-loop-i : goal.decreases-loop-i
-decreases-loop-i l = l.n - l.i
+invariant-loop-i l = any_below (repeat_at same_key (element_at 0 l.keys)) l.i ≡ false

@@ -1,6 +1,4 @@
--- `ledger::rules::obeys` meets its contract: the count decides, then each leg, then whether a key is there twice. The loop's invariant: the first i legs are right, and
--- their keys are in the row.
-use Prim.Native.Nat.{◌≤◌, ◌-◌}
+-- The legs before the one that is looked at are right, and their keys are in the row.
 use mathlib.Core.Path.{◌≡◌}
 use mathlib.Core.Bool.{false}
 use Rattle.lists.specs.Places.{any_below, row}
@@ -10,7 +8,4 @@ use Rattle.ledger.proofs.rules.obeys.Given as goal
 
 abbrev pub invariant-loop-i : goal.invariant-loop-i
 invariant-loop-i l =
-    (l.i ≤ l.n) × (l.n ≡ l.l.count) × (any_below (broken_at l.l) l.i ≡ false) × (l.keys ≡ row 128 0 (leg_key_at l.l) l.i)
-
-abbrev pub decreases-loop-i : goal.decreases-loop-i
-decreases-loop-i l = l.n - l.i
+    (any_below (broken_at l.fn.l) l.i ≡ false) × (l.keys ≡ row 128 0 (leg_key_at l.fn.l) l.i)

@@ -4,7 +4,6 @@ use Rattle.lists.proofs.Bools.{and_assoc}
 use Rattle.address.specs.Address.{same_address}
 use Rattle.ledger.specs.Rules.{is_open}
 use Rattle.ledger_accept.specs.Accept.{is_open_from}
-use borrow.Author.Rules.{rules}
 use Rattle.ledger_accept.proofs.refusing.is_open_from.Goals as goal
 
 pub returns : goal.returns

@@ -1,7 +1,6 @@
 -- `ledger_accept::refusing::legs_refusal` meets its contract: the tests on the way say which number.
 use mathlib.Core.Path.{sym, ◌∙◌}
 use Rattle.ledger_accept.proofs.Laws.{legs-61, legs-62, legs-63, legs-fit}
-use borrow.Author.Rules.{rules}
 use Rattle.ledger_accept.proofs.refusing.legs_refusal.Goals as goal
 
 pub returns-then-ticks-eq0 : goal.returns-then-ticks-eq0

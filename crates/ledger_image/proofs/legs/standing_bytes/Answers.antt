@@ -1,6 +1,5 @@
 -- `ledger_image::legs::standing_bytes` meets its contract: by cases on the standing.
 use Rattle.ledger_image.specs.Leg.{standing_bytes}
-use borrow.Author.Rules.{rules}
 use Rattle.ledger_image.proofs.legs.standing_bytes.Goals as goal
 
 pub returns-in-Open : goal.returns-in-Open

@@ -1,18 +1,12 @@
 -- The walk that lists meets its contract: each turn passes the lowest link that is left, lists the routes on from its far end, and leaves the others; with each
 -- node that is met fewer are not.
-use Prim.Native.Nat.{ℕ, ◌+◌, ◌*◌, ◌<◌, ◌≤◌}
-use mathlib.Core.Path.{◌≡◌, refl, sym, ap, ◌∙◌}
+use mathlib.Core.Path.{◌≡◌, sym, ap, ◌∙◌}
 use native.Mathlib.Omega.{arith}
 use borrow.Author.Rules.{rules}
-use borrow.Kind.Array.{e_int, good_length}
-use mir.Syntax.{w8}
 use lib.ListN.{length}
-use Rattle.route.specs.All.{unmet}
-use Rattle.route_links.specs.Sets.{places_in}
-use Rattle.route_links.specs.Private.{met_of, Choosing}
 use Rattle.route_links.proofs.Standing.{fewer, standing-room}
 use Rattle.route_links.proofs.Turning.{turn}
-use Rattle.route_list.specs.Private.{room_in, Slots, stow_all, paths_by}
+use Rattle.route_list.specs.Private.{stow_all}
 use Rattle.route_list.proofs.Stowing.{kept-length}
 use Rattle.route_list.proofs.Turns.{walking-of, went, went-full, none_left, arrived, went_on, trying-of}
 use Rattle.route_list.proofs.walking.+try_links_walk_on.Goals as goal

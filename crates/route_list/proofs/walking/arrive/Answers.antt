@@ -4,8 +4,6 @@ use mathlib.Core.Path.{◌≡◌, sym, ap, ◌∙◌}
 use mathlib.Core.List.{List}
 use native.Mathlib.Omega.{arith}
 use borrow.Author.Rules.{rules}
-use borrow.Kind.Array.{e_int, good_length}
-use mir.Syntax.{w8}
 use lib.ListN.{length}
 use lib.Seq.{sets}
 use Rattle.route_list.specs.Private.{links_in}

@@ -1,21 +1,19 @@
--- `route_list::walking::put` meets its contract. The loop's invariant: the first k bytes of the slot stand at its place.
-use Prim.Native.Nat.{◌*◌, ◌-◌, ◌≤◌, ℕ, ◌+◌, ◌<◌}
-use mathlib.Core.Path.{◌≡◌, ap, ◌∙◌}
-use mathlib.Core.List.{List}
+-- `route_list::walking::put` meets its contract: the slot stands at its place, and the bytes on both sides of it are as they were.
+use mathlib.Core.Path.{◌≡◌, refl, sym, ◌∙◌}
+use Prim.Native.Nat.{◌+◌, ◌*◌, ◌-◌, ◌≤◌}
 use native.Mathlib.Omega.{arith}
 use borrow.Author.Rules.{rules}
-use lib.ListN.{length, get_or, take, set, length-set}
-use lib.Seq.{sets, take_all}
-use Rattle.lists.proofs.Stores.{sets_more}
+use lib.ListN.{length}
+use lib.Seq.{take-length}
+use Rattle.std.proofs.lemmas.List.Edits.{sets-eq}
+use Rattle.std.proofs.lemmas.Slice.{put_mid-paste}
 use Rattle.route_list.proofs.walking.put.Goals as goal
 
-pub loop-k-preserved : goal.loop-k-preserved
-loop-k-preserved c =
+pub returns : goal.returns
+returns c =
     let a = c.args in
-    let k = c.loop-k.k in
-    let i = c.loop-k.invariant in
-    let h : k < length a.slot = omega (arith, c.well_formed.1.1.0) in (
-      omega arith,
-      ap (λ (l : List ℕ). set l (16 * a.n + k) (get_or a.slot k 0)) i.1 ∙ sets_more a.out.now (16 * a.n) a.slot k 0 h,
-      length-set c.loop-k.out (16 * a.n + k) (get_or a.slot k 0) ∙ i.2,
-    )
+    let at = 16 * a.n in
+    let whole : length a.slot ≡ 16 = search rules in
+    let long : length a.slot ≡ (at + 16) - at = omega (arith, whole) in
+    let fits : at + length a.slot ≤ length a.out.now = omega (arith, whole) in
+    put_mid-paste at _ a.out.now _ a.slot _ c.copy_from_slice.ensures.after long refl ∙ rw take-length (sym (sets-eq a.slot a.out.now at fits))

@@ -1,14 +1,13 @@
 -- `route_search::walking::try_links` and `walk_on` meet their contracts: the least route goes by the lowest link, as each begins one.
 -- The nodes that are not met fall.
 use mathlib.Core.Path.{sym, ◌∙◌, ap}
-use Prim.Native.Nat.{ℕ, ◌+◌, ◌-◌, ◌*◌, ◌<◌}
+use Prim.Native.Nat.{◌+◌, ◌-◌}
 use native.Mathlib.Omega.{arith}
-use borrow.Author.Rules.{rules}
 use lib.Bits.{bit_xor}
 use lib.Count.{count_trailing_zeros}
 use lib.ListN.{get_or}
-use Rattle.route.specs.All.{unmet, first_of}
-use Rattle.route_links.specs.Private.{alone, met_of, routes_on, routes_by}
+use Rattle.route.specs.All.{first_of}
+use Rattle.route_links.specs.Private.{alone, routes_on, routes_by}
 use Rattle.route_links.proofs.Standing.{fewer, standing-room}
 use Rattle.route_links.proofs.Turning.{Turn, turn}
 use Rattle.route_ahead.proofs.Going.{going-ahead}

@@ -1,14 +1,9 @@
--- `table::entries::out_choice` meets its contract. The loop's invariant: no entry before i qualifies.
-use Prim.Native.Nat.{◌≤◌, ◌-◌}
+-- No entry before the one that is looked at qualifies.
 use mathlib.Core.Path.{◌≡◌}
 use mathlib.Core.Bool.{false}
 use Rattle.lists.specs.Places.{any_below}
 use Rattle.table.specs.Table.{qualifies_at}
 use Rattle.table.proofs.entries.out_choice.Given as goal
 
-abbrev pub invariant-loop-i : goal.invariant-loop-i
-invariant-loop-i l =
-    (l.i ≤ l.n) × (any_below (qualifies_at l.t l.d l.arrival) l.i ≡ false)
-
-abbrev pub decreases-loop-i : goal.decreases-loop-i
-decreases-loop-i l = l.n - l.i
+abbrev pub invariant-loop-e : goal.invariant-loop-e
+invariant-loop-e l = any_below (qualifies_at l.fn.t l.d l.arrival) l.e-index ≡ false
