@@ -3,8 +3,7 @@ use Prim.Native.Nat.{ℕ, zero, suc}
 use mathlib.Core.Path.{◌≡◌, refl}
 use native.Mathlib.Omega.{arith}
 use Rattle.lists.specs.Refusals.{unless_refused}
-use Rattle.buffer.specs.declared.Written.TheVariants.{Wrote, Refused}
-use Rattle.buffer.specs.Writing.{written_refusal, written_count, wrote_unless}
+use Rattle.buffer.specs.Writing.{Wrote, Refused, written_refusal, written_count, wrote_unless}
 
 pub wrote-refusal : (k n : ℕ) → written_refusal (wrote_unless k n) ≡ k
 unfolding wrote_unless unless_refused

@@ -1,9 +1,8 @@
 -- Two-byte numbers, and what a writer answers, by example.
 use Rattle.std.specs.Prelude.{◌≡◌, refl, [], ◌∷◌}
 use Rattle.lists.specs.Refusals.{unless_refused}
-use Rattle.buffer.specs.declared.Written.TheVariants.{Wrote, Refused}
+use Rattle.buffer.specs.Writing.{Wrote, Refused, written_refusal, written_count, wrote_unless, lent_after}
 use Rattle.buffer.specs.Bytes.{word_at, word_bytes}
-use Rattle.buffer.specs.Writing.{written_refusal, written_count, wrote_unless, lent_after}
 
 pub record Cases : Type 0 where
   -- the high byte first; past the end 0

@@ -1,8 +1,11 @@
 -- What a writer of bytes answers: how many it wrote, or a refusal (document 01, "What form each place takes": an enum's numbers and values).
 use Rattle.std.specs.Prelude.{ℕ, List, ◌++◌, length, drop}
 use Rattle.lists.specs.Refusals.{unless_refused}
-use Rattle.buffer.specs.declared.Written.{Written}
-use Rattle.buffer.specs.declared.Written.TheVariants.{Wrote, Refused}
+
+-- how many bytes were written, or a refusal's number
+pub data Written : Type 0 where
+  Wrote : ℕ → Written
+  Refused : ℕ → Written
 
 -- document 01's number and value for each case of an answer: no byte is written beside a refusal
 abbrev pub written_refusal : Written → ℕ

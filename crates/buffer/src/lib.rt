@@ -1,16 +1,9 @@
-// Bytes of a slice, read and stored at any place: a place past the end reads as 0, and nothing is stored there. And what a writer of bytes answers.
+// Bytes of a slice, read and stored at any place: a place past the end reads as 0, and nothing is stored there.
 #![tactic(auto)]
 
 ghost use Rattle.std.specs.Prelude.{◌≡◌, get_or, replicate};
 ghost use Rattle.std.proofs.lemmas.List.Edits.{sets};
 ghost use Rattle.buffer.specs.Bytes.{word_at};
-
-// What a writer answers: the number of bytes written, or the refusal.
-#[derive(Clone, Copy)]
-pub enum Written {
-    Wrote(usize),
-    Refused(u8),
-}
 
 // The byte at a place.
 pub fn byte_at(s: &[u8], at: usize) -> u8

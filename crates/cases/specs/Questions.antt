@@ -5,23 +5,23 @@ use Rattle.lists.specs.Places.{element_at}
 use Rattle.address.specs.declared.Address.{Address}
 use Rattle.address.specs.Address.{zero_address}
 use Rattle.envelope.specs.declared.Fixed.{Fixed}
-use Rattle.envelope_read.specs.declared.Read.{Read}
+use Rattle.envelope_read.specs.Read.{Read}
 use Rattle.envelope_read.specs.Read.{read_frame_of}
 use Rattle.envelope_read.specs.Parts.{contents_of, destinations_of}
 use Rattle.envelope_write.specs.Write.{frame_bytes}
 use Rattle.table.specs.declared.Table.{Table}
-use Rattle.table.specs.declared.Choice.{Choice}
+use Rattle.table.specs.Choice.{Choice}
 use Rattle.table.specs.Table.{choose_of}
 use Rattle.ledger.specs.declared.Ledger.{Ledger}
 use Rattle.ledger_tick.specs.Tick.{tick_of}
 use Rattle.ledger_accept.specs.Accept.{accept_of}
 use Rattle.ledger_laws.specs.Calls.{Call, accepting, answering, ticking, clearing, refusal_of, after}
 use Rattle.chart.specs.declared.Chart.{Chart}
-use Rattle.chart_read.specs.declared.ChartRead.{ChartRead}
+use Rattle.chart_read.specs.Reading.{ChartRead}
 use Rattle.chart_read.specs.Reading.{read_chart_of}
 use Rattle.chart_read_door.specs.Calls.{pz_chart_read_image}
-use Rattle.route_search.specs.declared.Traced.{Traced}
-use Rattle.route_search.specs.declared.Traced.TheVariants.{Route, Refused}
+use Rattle.route_search.specs.Answers.{Traced}
+use Rattle.route_search.specs.Answers.{Route, Refused}
 use Rattle.route_search.specs.Answers.{Told}
 use Rattle.route_trace.specs.Trace.{trace_first, trace_next}
 use Rattle.route_list_door.specs.Calls.{pz_routes_count, pz_routes_more, pz_routes_slots}

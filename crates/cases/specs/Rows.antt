@@ -3,8 +3,8 @@
 use Rattle.std.specs.Prelude.{ℕ, ◌≡◌, length}
 use mathlib.Core.List.{List, [], ◌∷◌, ◌++◌, Memᴰ}
 use Rattle.envelope.specs.Cases.{fire_frame, fire_fields}
-use Rattle.envelope_read.specs.declared.Read.TheVariants.{Envelope}
-use Rattle.table.specs.declared.Choice.TheVariants.{Local, Out, Refused as Unrouted}
+use Rattle.envelope_read.specs.Read.{Envelope}
+use Rattle.table.specs.Choice.{Local, Out, Refused as Unrouted}
 use Rattle.table.specs.Cases.{T}
 use Rattle.ledger.specs.declared.Standing.TheVariants.{Open, Acknowledged, Refused, TimedOut, Waiting}
 use Rattle.ledger.specs.Cases.{leg, ledger, two, one}
@@ -14,7 +14,7 @@ use Rattle.ledger_laws.specs.Calls.{Call, accepting, answering, ticking, clearin
 use Rattle.chart.specs.Sample.{S, bytes_s, S', bytes_s'}
 use Rattle.chart_read.specs.Reading.{refused_at}
 use Rattle.chart_image.specs.Cases.{image_s}
-use Rattle.route_search.specs.declared.Traced.TheVariants.{Refused as NoRoute}
+use Rattle.route_search.specs.Answers.{Refused as NoRoute}
 use Rattle.cases.specs.Questions.{Asked, reading, listing, following, choosing, calling, opening, sending, imaging, tracing, slotting, Returned, Back, read, listed, told, chosen, called, opened, sent, imaged, numbered, slotted, lent, answer_to}
 use Rattle.cases.specs.Values.{port, seq, at, off, way, to}
 

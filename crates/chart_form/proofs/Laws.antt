@@ -1,18 +1,18 @@
 -- Laws of moving: a chart accepted in one form is accepted in the other, and what is then answered.
 use Prim.Native.Nat.{ℕ, zero, suc, ◌<◌, ◌≤◌}
 use mathlib.Core.Path.{◌≡◌, refl, sym, ap, subst, ◌∙◌}
-use mathlib.Core.List.{List, ◌++◌}
+use mathlib.Core.List.{List}
 use mathlib.Core.Bool.{Bool, true, false, cond, ◌&&◌, ◌||◌, true≢false}
 use native.Mathlib.Omega.{arith}
 use lib.Dec.{leb, eqb}
-use lib.ListN.{length, drop}
+use lib.ListN.{length}
 use borrow.Author.Tests.{eqb-true, eq-eqb, le-leb, not-false}
 use Rattle.lists.specs.Refusals.{unless_refused}
 use Rattle.lists.proofs.Bools.{and_left, and_right, and_both}
 use Rattle.lists.proofs.Places.{any_false}
-use Rattle.lists.proofs.Refusals.{pass, or-pass, or-refused, refused}
-use Rattle.buffer.specs.declared.Written.{Written}
-use Rattle.buffer.specs.Writing.{written_refusal, written_count, lent_after}
+use Rattle.lists.proofs.Refusals.{pass, or-pass, refused}
+use Rattle.lists.proofs.Chains.{or-stops}
+use Rattle.buffer.specs.Writing.{lent_after}
 use Rattle.chart.specs.declared.Link.{Link}
 use Rattle.chart.specs.declared.Links.{Links}
 use Rattle.chart.specs.declared.Chart.{Chart}
@@ -20,13 +20,11 @@ use Rattle.chart.specs.Values.{link_at, end_in_range, direction_in_range, link_i
 use Rattle.chart_refuse.specs.Refusal.{chart_refusal}
 use Rattle.chart_refuse.proofs.Laws.{passed}
 use Rattle.chart_refuse.proofs.Accepted.{accepted-exactly}
-use Rattle.chart_read.specs.declared.ChartRead.{ChartRead}
 use Rattle.chart_read.specs.Fields.{is_form}
 use Rattle.chart_read.specs.Reading.{read_chart_of}
 use Rattle.chart_write.specs.Writing.{longest_chart, chart_bytes, chart_write_refusal, chart_after}
 use Rattle.chart_write.proofs.Promises.{chart_short}
-use Rattle.chart_form.specs.declared.Moved.{Moved}
-use Rattle.chart_form.specs.Moving.{in_form, one_way_at, one_way, moved_bytes, move_refusal, move_of, moved_after}
+use Rattle.chart_form.specs.Moving.{in_form, one_way_at, one_way, moved_bytes, move_refusal, moved_after}
 use Rattle.chart_form.proofs.Read.{was_read}
 
 -- ---- in another form
@@ -84,10 +82,8 @@ accepted-as form c z k w =
     })
 
 -- the links of a chart that was read are few enough
-pub read-few : (bytes : List ℕ) {r : ChartRead} → r ≡ read_chart_of bytes → r.refusal ≡ 0 → r.chart.links.count ≤ 48
-read-few bytes {r} g z =
-    subst (λ (x : ChartRead). x.chart.links.count ≤ 48) (sym g)
-    (passed (read_chart_of bytes).chart (was_read bytes (sym (ap (λ (x : ChartRead). x.refusal) g) ∙ z)).accepted).few_links
+pub read-few : (bytes : List ℕ) → (read_chart_of bytes).refusal ≡ 0 → {c : Chart} → c ≡ (read_chart_of bytes).chart → c.links.count ≤ 48
+read-few bytes z g = subst (λ (x : Chart). x.links.count ≤ 48) (sym g) (passed (read_chart_of bytes).chart (was_read bytes z).accepted).few_links
 
 not-both : (x y : Bool) → (x && y) ≡ false → x ≡ true → y ≡ false
 not-both true y h e = h
@@ -112,66 +108,49 @@ moved-short form known bytes room = by (move_refusal form bytes room) refl
 
 -- ---- the answer
 
--- what is answered, and what the buffer then holds
-pub record Answer (form : ℕ) (bytes out : List ℕ) (m : Moved) (after : List ℕ) : Type 0 where
-  pub answer : m ≡ move_of form bytes (length out)
-  pub buffer : after ≡ moved_after form bytes out
+module _ (form : ℕ) (bytes out : List ℕ) where
+  abbrev k : ℕ
+  k = move_refusal form bytes (length out)
 
-module _ (form : ℕ) (bytes out : List ℕ) {r : ChartRead} (g : r ≡ read_chart_of bytes) where
-  refused_as : (k : ℕ) → move_refusal form bytes (length out) ≡ k → (k ≡ 0 → ⊥) → Answer form bytes out (record { refusal = k; place = r.place; written = 0 }) out
-  unfolding move_of moved_after
-  refused_as k e h =
-      record {
-        answer = λ i. record {
-          refusal = sym e i;
-          place = (g i).place;
-          written = (sym (refused (length (moved_bytes form bytes)) 0 k h) ∙ ap (λ (n : ℕ). unless_refused n (length (moved_bytes form bytes)) 0) (sym e)) i;
-        };
-        buffer = sym (ap (λ (n : ℕ). unless_refused n (moved_bytes form bytes ++ drop (length (moved_bytes form bytes)) out) out) e ∙ refused _ out k h);
-      }
+  -- writing the chart d answers the same
+  pub record WrittenSame (d : Chart) : Type 0 where
+    pub refusal : chart_write_refusal d (length out) ≡ k
+    pub size : length (chart_bytes d) ≡ length (moved_bytes form bytes)
+    pub after : chart_after d out ≡ moved_after form bytes out
 
-  pub move-refused : (r.refusal ≡ 0 → ⊥) → Answer form bytes out (record { refusal = r.refusal; place = r.place; written = 0 }) out
+  pub move-refused : {n : ℕ} → n ≡ (read_chart_of bytes).refusal → (n ≡ 0 → ⊥) → n ≡ k
   unfolding move_refusal
-  move-refused h =
-      refused_as r.refusal (or-refused (read_chart_of bytes).refusal _ (λ z. h (ap (λ (x : ChartRead). x.refusal) g ∙ z)) ∙ sym (ap (λ (x : ChartRead). x.refusal) g)) h
+  move-refused e h = or-stops _ e h
 
-  module _ (z : r.refusal ≡ 0) where
-    none : (read_chart_of bytes).refusal ≡ 0
-    none = sym (ap (λ (x : ChartRead). x.refusal) g) ∙ z
+  -- a refusal leaves the buffer
+  pub moved-left : {n : ℕ} → n ≡ k → (n ≡ 0 → ⊥) → out ≡ moved_after form bytes out
+  unfolding moved_after
+  moved-left {n} e h = sym (ap (λ (j : ℕ). lent_after j (moved_bytes form bytes) out) (sym e) ∙ refused _ out n h)
 
-    -- b is what the code finds of the links
-    asked : {b k : Bool} → b ≡ one_way r.chart.links → (eqb form 2 && b) ≡ k → (eqb form 2 && one_way r.chart.links) ≡ k
-    asked o t = ap (λ (x : Bool). eqb form 2 && x) (sym o) ∙ t
+  -- c is the chart that was read, and b is what the code finds of its links
+  module _ (none : (read_chart_of bytes).refusal ≡ 0) {c : Chart} (g : c ≡ (read_chart_of bytes).chart) {b : Bool} (o : b ≡ one_way c.links) where
+    asked : {t : Bool} → (eqb form 2 && b) ≡ t → (eqb form 2 && one_way (read_chart_of bytes).chart.links) ≡ t
+    asked e = ap (λ (x : Bool). eqb form 2 && x) (sym (o ∙ ap (λ (x : Chart). one_way x.links) g)) ∙ e
 
-    pub move-one-way : {b : Bool} → b ≡ one_way r.chart.links → (eqb form 2 && b) ≡ true → Answer form bytes out (record { refusal = 32; place = r.place; written = 0 }) out
-    move-one-way o t = refused_as 32 (unfold move_refusal in rw (none, ← g, asked o t)) (λ e. absurd (omega arith))
+    pub move-one-way : (eqb form 2 && b) ≡ true → 32 ≡ k
+    unfolding move_refusal
+    move-one-way t = rw (none, asked t)
 
-    module _ (known : is_form form ≡ true) {b : Bool} (o : b ≡ one_way r.chart.links) (t : (eqb form 2 && b) ≡ false) where
-      accepted : chart_refusal (in_form form r.chart) ≡ 0
+    -- the writer's own answer on the chart d is that
+    module _ (known : is_form form ≡ true) (t : (eqb form 2 && b) ≡ false) {d : Chart} (e : d ≡ in_form form c) where
+      accepted : chart_refusal d ≡ 0
       accepted =
-          accepted-as form r.chart (ap (λ (x : ChartRead). chart_refusal x.chart) g ∙ (was_read bytes none).accepted) known
-          (not-both (eqb form 2) (one_way r.chart.links) (asked o t))
+          ap chart_refusal (e ∙ ap (in_form form) g)
+          ∙ accepted-as form (read_chart_of bytes).chart (was_read bytes none).accepted known (not-both (eqb form 2) (one_way (read_chart_of bytes).chart.links) (asked t))
 
-      module _ {c : Chart} (e : c ≡ in_form form r.chart) where
-        bytes_same : chart_bytes c ≡ moved_bytes form bytes
-        unfolding moved_bytes
-        bytes_same = ap chart_bytes e ∙ ap (λ (x : ChartRead). chart_bytes (in_form form x.chart)) g
+      bytes_same : chart_bytes d ≡ moved_bytes form bytes
+      unfolding moved_bytes
+      bytes_same = ap chart_bytes (e ∙ ap (in_form form) g)
 
-        refusal-same : chart_write_refusal c (length out) ≡ move_refusal form bytes (length out)
-        unfolding chart_write_refusal move_refusal
-        refusal-same = rw (none, ← g, asked o t, ← bytes_same, ap chart_refusal e ∙ accepted)
+      refusal-same : chart_write_refusal d (length out) ≡ k
+      unfolding chart_write_refusal move_refusal
+      refusal-same = rw (none, asked t, ← bytes_same, accepted)
 
-        -- the writer's own answer, which is v
-        pub move-written : {w v : Written} {after : List ℕ} → w ≡ v → written_refusal w ≡ chart_write_refusal c (length out)
-            → written_count w ≡ unless_refused (chart_write_refusal c (length out)) (length (chart_bytes c)) 0 → after ≡ chart_after c out
-            → Answer form bytes out (record { refusal = written_refusal v; place = r.place; written = written_count v }) after
-        unfolding chart_after move_of moved_after
-        move-written is f n b =
-            record {
-              answer = λ i. record {
-                refusal = (ap written_refusal (sym is) ∙ f ∙ refusal-same) i;
-                place = (g i).place;
-                written = (ap written_count (sym is) ∙ n ∙ (λ j. unless_refused (refusal-same j) (length (bytes_same j)) 0)) i;
-              };
-              buffer = b ∙ (λ j. lent_after (refusal-same j) (bytes_same j) out);
-            }
+      pub written-same : WrittenSame d
+      unfolding chart_after moved_after
+      written-same = record { refusal = refusal-same; size = ap length bytes_same; after = λ i. lent_after (refusal-same i) (bytes_same i) out }

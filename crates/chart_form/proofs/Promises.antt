@@ -13,9 +13,8 @@ use Rattle.lists.proofs.Bools.{and_left, and_right, both_ways}
 use Rattle.lists.proofs.Places.{any-nowhere}
 use Rattle.chart.specs.declared.Chart.{Chart}
 use Rattle.chart.specs.Values.{plain, directed, node_at, link_at}
-use Rattle.chart_read.specs.declared.ChartRead.{ChartRead}
 use Rattle.chart_read.specs.Fields.{is_form}
-use Rattle.chart_read.specs.Reading.{read_chart_of}
+use Rattle.chart_read.specs.Reading.{ChartRead, read_chart_of}
 use Rattle.chart_write.specs.Writing.{node_field, question_field, chart_bytes, tidy_form, tidy}
 use Rattle.chart_write.specs.Promises.{chart_reader_refusals}
 use Rattle.chart_write.proofs.Forms.{form-bytes}

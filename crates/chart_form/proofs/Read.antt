@@ -24,9 +24,8 @@ use Rattle.chart.specs.Values.{no_node, no_link, no_chart, node_at, link_at}
 use Rattle.chart.specs.Refusals.{node_refusal, link_refusal, question_refusal}
 use Rattle.chart.proofs.Laws.{node-passed, link-passed, question-passed}
 use Rattle.chart_refuse.specs.Refusal.{nodes_before, links_before, node_refusal_at, link_refusal_at, chart_values_refusal, chart_refusal}
-use Rattle.chart_read.specs.declared.ChartRead.{ChartRead}
 use Rattle.chart_read.specs.Fields.{is_form, tag_at, body_at, past_field, bytes_from, node_in, link_in}
-use Rattle.chart_read.specs.Reading.{SoFar, nothing, node_added, link_added, with_node, with_link, with_question, with_body, node_late, mixes, link_late, link_after, refusing, body_refusal, field_refusal, refused_at, at_end, onward, walk, read_chart_of}
+use Rattle.chart_read.specs.Reading.{ChartRead, SoFar, nothing, node_added, link_added, with_node, with_link, with_question, with_body, node_late, mixes, link_late, link_after, refusing, body_refusal, field_refusal, refused_at, at_end, onward, walk, read_chart_of}
 use Rattle.chart_read.proofs.Laws.{with-node, with-link, with-question, node-zero, link-zero, question-zero, node-bounds, link-bounds, question-bounds, body-zero}
 use Rattle.chart_read.proofs.Walking.{held_past}
 use Rattle.chart_write.specs.Writing.{tidy_node, tidy_at, tidy_form, tidy}

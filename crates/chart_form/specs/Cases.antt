@@ -10,8 +10,7 @@ use Rattle.chart_read.specs.Cases.{lone, asked}
 use Rattle.chart_read.specs.Fields.{is_form, link_length, tagged, bytes_from, node_in, link_in}
 use Rattle.chart_read.specs.Reading.{nothing, with_node, with_link, with_question, with_body, node_late, mixes, link_late, link_after, refusing, node_body_refusal, link_body_refusal, question_body_refusal, body_refusal, field_refusal, walk, read_chart_of}
 use Rattle.chart_write.specs.Writing.{node_body, direction_bytes, link_body, question_body, node_field, link_field, question_field, chart_bytes}
-use Rattle.chart_form.specs.declared.Moved.{Moved}
-use Rattle.chart_form.specs.Moving.{in_form, one_way_at, one_way, moved_bytes, move_refusal, move_of, moved_after}
+use Rattle.chart_form.specs.Moving.{Moved, in_form, one_way_at, one_way, moved_bytes, move_refusal, move_of, moved_after}
 
 -- S in the directed form with its first link out
 abbrev pub one_way_s : List ℕ

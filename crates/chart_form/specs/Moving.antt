@@ -8,7 +8,6 @@ use Rattle.chart.specs.declared.Chart.{Chart}
 use Rattle.chart.specs.Values.{plain, both_ways, link_at}
 use Rattle.chart_read.specs.Reading.{read_chart_of}
 use Rattle.chart_write.specs.Writing.{chart_bytes}
-use Rattle.chart_form.specs.declared.Moved.{Moved}
 
 -- the chart with its links in a form
 unfoldable pub in_form : ℕ → Chart → Chart
@@ -39,6 +38,11 @@ move_refusal form bytes room =
     (refuse 10 (ltb room (length (moved_bytes form bytes))) 0))
 
 -- the number, the place of the field that the chart's number refuses, else 0, and how many bytes were written
+pub record Moved : Type 0 where
+  pub refusal : ℕ
+  pub place : ℕ
+  pub written : ℕ
+
 unfoldable pub move_of : ℕ → List ℕ → ℕ → Moved
 move_of form bytes room =
     record {

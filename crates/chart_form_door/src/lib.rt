@@ -8,18 +8,34 @@ ghost use Rattle.chart_form_door.specs.Calls.{pz_chart_renew_refusal, pz_chart_r
 pub fn pz_chart_renew(chart: &[u8], out: &mut [u8], written: &mut u16, place: &mut u16) -> u8
     ensures { (result ≡ pz_chart_renew_refusal chart.now (length out.old)) × (written.new ≡ pz_chart_renew_count chart.now (length out.old)) × (place.new ≡ pz_chart_renew_place chart.now) × (out.new ≡ pz_chart_renew_chart chart.now out.old) }
 {
-    let m = chart_form::renew(chart, out);
-    *written = m.written as u16;
-    *place = m.place as u16;
-    m.refusal
+    match chart_form::renew(chart, out) {
+        Ok(n) => {
+            *written = n as u16;
+            *place = 0;
+            0
+        }
+        Err(fault) => {
+            *written = 0;
+            *place = fault.place as u16;
+            fault.refusal.number()
+        }
+    }
 }
 
 // Writes a chart in the plain form; `written` is how many bytes, `place` where the field begins that the chart's number refuses, else 0.
 pub fn pz_chart_restore(chart: &[u8], out: &mut [u8], written: &mut u16, place: &mut u16) -> u8
     ensures { (result ≡ pz_chart_restore_refusal chart.now (length out.old)) × (written.new ≡ pz_chart_restore_count chart.now (length out.old)) × (place.new ≡ pz_chart_restore_place chart.now) × (out.new ≡ pz_chart_restore_chart chart.now out.old) }
 {
-    let m = chart_form::restore(chart, out);
-    *written = m.written as u16;
-    *place = m.place as u16;
-    m.refusal
+    match chart_form::restore(chart, out) {
+        Ok(n) => {
+            *written = n as u16;
+            *place = 0;
+            0
+        }
+        Err(fault) => {
+            *written = 0;
+            *place = fault.place as u16;
+            fault.refusal.number()
+        }
+    }
 }

@@ -2,6 +2,7 @@
 use Prim.Native.Nat.{ℕ, ◌<◌, ◌≤◌}
 use mathlib.Core.Path.{◌≡◌, refl, sym, ap, ◌∙◌}
 use mathlib.Core.List.{List}
+use Rattle.std.specs.Prelude.{Result, Ok, Err}
 use mathlib.Core.Bool.{true, false, not, ◌&&◌}
 use native.Mathlib.Omega.{arith}
 use lib.ListN.{length, replicate, take, length-replicate}
@@ -13,8 +14,11 @@ use Rattle.lists.proofs.Chains.{stops, passes}
 use Rattle.lists.proofs.Stores.{sets-front, taken-front}
 use Rattle.lists.proofs.Bools.{and_left, and_right, not-no, not_yes}
 use Rattle.buffer.specs.Writing.{lent_after}
-use Rattle.chart_mend.specs.declared.Mended.{Mended}
-use Rattle.chart_mend.specs.Mending.{held_of, kept_bytes, list_bytes, mend_refusal, mend_of}
+use Rattle.refusal.specs.declared.Refusal.{Refusal}
+use Rattle.refusal.specs.Numbers.{number, Answers}
+use Rattle.refusal.proofs.Laws.{names}
+use Rattle.chart_mend.specs.declared.MendedSizes.{MendedSizes}
+use Rattle.chart_mend.specs.Mending.{held_of, kept_bytes, list_bytes, mend_refusal, Mended, mend_of, sizes_of}
 use Rattle.chart_mend.specs.Promises.{WholeMends}
 
 -- ---- the number
@@ -69,17 +73,9 @@ module _ (input : List ℕ) (room list_room : ℕ) where
         list-fits = ltb-false _ _ t.0;
       }
 
--- ---- the answer
+-- ---- the answer where nothing is refused
 
 module _ (input : List ℕ) (room list_room : ℕ) where
-  -- beside a refusal
-  refused-answer : (k : ℕ) → (k ≡ 0 → ⊥) → k ≡ mend_refusal input room list_room → record { refusal = k; kept = 0; listed = 0 } ≡ mend_of input room list_room
-  unfolding mend_of
-  refused-answer k z e =
-      let n : mend_refusal input room list_room ≡ 0 → ⊥ = λ q. z (e ∙ q) in
-      λ i. record { refusal = e i; kept = sym (refused (length (kept_bytes input)) 0 _ n) i; listed = sym (refused (length (list_bytes input)) 0 _ n) i }
-
-  -- and beside none
   taken-answer : {m n : ℕ} → m ≡ length (kept_bytes input) → n ≡ length (list_bytes input) → 0 ≡ mend_refusal input room list_room
       → record { refusal = 0; kept = m; listed = n } ≡ mend_of input room list_room
   unfolding mend_of
@@ -104,28 +100,28 @@ module _ (input out list : List ℕ) where
   refusal = mend_refusal input (length out) (length list)
 
   -- what the call comes to
-  abbrev pub Comes : Mended → List ℕ → List ℕ → Type 0
+  abbrev pub Comes : Result MendedSizes Refusal → List ℕ → List ℕ → Type 0
   Comes r out' list' =
-      (r ≡ mend_of input (length out) (length list)) × ((out' ≡ lent_after refusal (kept_bytes input) out) × (list' ≡ lent_after refusal (list_bytes input) list))
+      Answers r (mend_of input (length out) (length list)).refusal (sizes_of (mend_of input (length out) (length list)))
+      × ((out' ≡ lent_after refusal (kept_bytes input) out) × (list' ≡ lent_after refusal (list_bytes input) list))
 
-  refused-buffer : (k : ℕ) → (k ≡ 0 → ⊥) → k ≡ refusal → (vs l : List ℕ) → l ≡ lent_after refusal vs l
-  refused-buffer k z e vs l = sym (refused _ l refusal (λ q. z (e ∙ q)))
+  refused-buffer : (r : Refusal) → number r ≡ refusal → (vs l : List ℕ) → l ≡ lent_after refusal vs l
+  refused-buffer r e vs l = sym (refused _ l refusal (λ q. names.none_zero r (e ∙ q)))
 
-  pub comes-refused : (k : ℕ) → (k ≡ 0 → ⊥) → k ≡ refusal → (r : Mended) → r ≡ record { refusal = k; kept = 0; listed = 0 } → Comes r out list
-  comes-refused k z e r q = (
-    q ∙ refused-answer input (length out) (length list) k z e,
-    (refused-buffer k z e (kept_bytes input) out, refused-buffer k z e (list_bytes input) list),
-  )
+  pub comes-refused : (r : Refusal) → number r ≡ refusal → Comes (Err r) out list
+  unfolding mend_of
+  comes-refused r e = (e, (refused-buffer r e (kept_bytes input) out, refused-buffer r e (list_bytes input) list))
 
   taken-buffer : 0 ≡ refusal → (vs l : List ℕ) → length vs ≤ length l → sets l 0 vs ≡ lent_after refusal vs l
   taken-buffer e vs l h = sets-front l vs h ∙ sym (taken _ l (sym e))
 
   pub comes-taken : length input ≤ 65535 → (held_of input).asked ≡ true → (m n : ℕ) → m ≡ length (kept_bytes input) → n ≡ length (list_bytes input)
       → m ≤ length out → n ≤ length list → (out' list' : List ℕ) → out' ≡ sets out 0 (kept_bytes input) → list' ≡ sets list 0 (list_bytes input)
-      → Comes (record { refusal = 0; kept = m; listed = n }) out' list'
+      → Comes (Ok (record { kept = m; listed = n })) out' list'
   comes-taken h a m n k l p q out' list' x y =
-      let e : 0 ≡ refusal = no-refusal input (length out) (length list) h a (omega arith) (omega arith) in (
-        taken-answer input (length out) (length list) k l e,
+      let e : 0 ≡ refusal = no-refusal input (length out) (length list) h a (omega arith) (omega arith) in
+      let t = taken-answer input (length out) (length list) k l e in (
+        (sym (ap (λ (x : Mended). x.refusal) t), ap sizes_of t),
         (x ∙ taken-buffer e (kept_bytes input) out (omega arith), y ∙ taken-buffer e (list_bytes input) list (omega arith)),
       )
 

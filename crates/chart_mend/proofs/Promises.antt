@@ -7,9 +7,8 @@ use native.Mathlib.Omega.{arith}
 use lib.ListN.{length, drop, length-append, length-drop, drop_of_length-le}
 use Rattle.buffer.specs.Bytes.{word_at}
 use Rattle.lists.specs.Refusals.{unless_refused}
-use Rattle.chart_read.specs.declared.ChartRead.{ChartRead}
 use Rattle.chart_read.specs.Fields.{past_field}
-use Rattle.chart_read.specs.Reading.{SoFar, refusing, field_refusal, refused_at, at_end, walk, read_chart_of}
+use Rattle.chart_read.specs.Reading.{ChartRead, SoFar, refusing, field_refusal, refused_at, at_end, walk, read_chart_of}
 use Rattle.chart_read.proofs.Laws.{whole}
 use Rattle.chart_read.proofs.Walking.{held_past, turn, walk_end, end-unasked, end-asked}
 use Rattle.chart_mend.specs.Mending.{Seen, next_place, seen_at, fields_of, held_of, each, kept_of, entry_of, kept_bytes, list_bytes}

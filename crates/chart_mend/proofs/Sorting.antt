@@ -11,8 +11,9 @@ use Rattle.buffer.specs.Bytes.{Bytes, word_bytes}
 use Rattle.lists.proofs.Stores.{sets-append}
 use Rattle.chart_read.specs.declared.Counts.{Counts}
 use Rattle.chart_read.specs.Reading.{SoFar, nothing}
-use Rattle.chart_read.specs.Private.{Keys, TakesField, field_end}
-use Rattle.chart_read.proofs.Taking.{HeldKeys, no_keys, none-held, held-refusal, held-keys}
+use Rattle.chart_read.specs.declared.Keys.{Keys}
+use Rattle.chart_read.specs.Private.{no_keys, TakesField, field_end}
+use Rattle.chart_read.proofs.Taking.{HeldKeys, none-held, held-refusal, held-keys}
 use Rattle.chart_mend.specs.Mending.{Seen, next_place, held_after, seen_at, fields_of, held_of, each, kept_of, entry_of, kept_bytes, list_bytes}
 use Rattle.chart_mend.specs.Private.{PassedOver}
 use Rattle.chart_mend.proofs.Fields.{between, long-between}
@@ -74,8 +75,11 @@ pub record Sorting (input out₀ list₀ : List ℕ) (t : Turn) : Type 0 where
   pub kept : Stored kept_of done out₀ t.out t.kept
   pub listed : Stored entry_of done list₀ t.list t.listed
 
-pub sorting_start : (input out list : List ℕ) → Sorting input out list (record { out = out; list = list; keys = no_keys; kept = 0; listed = 0; at = 0 })
-sorting_start input out list =
+abbrev first_turn : (out list : List ℕ) → Keys → Turn
+first_turn out list keys = record { out = out; list = list; keys = keys; kept = 0; listed = 0; at = 0 }
+
+nothing_yet : (input out list : List ℕ) → Sorting input out list (first_turn out list no_keys)
+nothing_yet input out list =
     record {
       s = nothing;
       done = [];
@@ -86,6 +90,9 @@ sorting_start input out list =
       kept = stored-none kept_of out;
       listed = stored-none entry_of list;
     }
+
+pub sorting_start : (input out list : List ℕ) (keys : Keys) → keys ≡ no_keys → Sorting input out list (first_turn out list keys)
+sorting_start input out list keys e = subst (λ (k : Keys). Sorting input out list (first_turn out list k)) (sym e) (nothing_yet input out list)
 
 -- what is stored so far is no more than all
 module _ {input out₀ list₀ : List ℕ} {t : Turn} (p : Sorting input out₀ list₀ t) where

@@ -4,7 +4,7 @@ use Rattle.lists.specs.Refusals.{refuse, unless_refused}
 use Rattle.buffer.specs.Bytes.{word_bytes}
 use Rattle.chart_read.specs.Fields.{tag_at, body_at, past_field}
 use Rattle.chart_read.specs.Reading.{SoFar, nothing, with_body, refusing, field_refusal}
-use Rattle.chart_mend.specs.declared.Mended.{Mended}
+use Rattle.chart_mend.specs.declared.MendedSizes.{MendedSizes}
 
 -- ---- one field
 
@@ -89,6 +89,11 @@ mend_refusal bytes room list_room =
     (refuse 10 (ltb list_room (length (list_bytes bytes))) 0)))
 
 -- the answer: how many bytes are kept and how many listed, 0 beside a refusal
+pub record Mended : Type 0 where
+  pub refusal : ℕ
+  pub kept : ℕ
+  pub listed : ℕ
+
 unfoldable pub mend_of : List ℕ → ℕ → ℕ → Mended
 mend_of bytes room list_room =
     record {
@@ -96,3 +101,7 @@ mend_of bytes room list_room =
       kept = unless_refused (mend_refusal bytes room list_room) (length (kept_bytes bytes)) 0;
       listed = unless_refused (mend_refusal bytes room list_room) (length (list_bytes bytes)) 0;
     }
+
+-- its sizes
+abbrev pub sizes_of : Mended → MendedSizes
+sizes_of m = record { kept = m.kept; listed = m.listed }

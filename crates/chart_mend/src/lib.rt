@@ -2,13 +2,14 @@
 #![tactic(auto)]
 
 ghost use Rattle.std.specs.Prelude.{◌≡◌, [], ◌∷◌, ◌++◌, ◌<◌, ◌≤◌, length};
+ghost use Rattle.refusal.specs.Numbers.{number, Answers};
 ghost use Rattle.buffer.specs.Bytes.{word_bytes};
 ghost use Rattle.buffer.specs.Writing.{lent_after};
-ghost use Rattle.chart_mend.specs.Mending.{longest_input, kept_bytes, list_bytes, mend_refusal, mend_of};
+ghost use Rattle.chart_mend.specs.Mending.{longest_input, kept_bytes, list_bytes, mend_refusal, mend_of, sizes_of};
 ghost use Rattle.chart_mend.specs.Private.{PassedOver};
 
-use chart::PLAIN;
-use chart_read::{Counts, field_end, take_field};
+use chart_read::{field_end, no_keys, take_field};
+use refusal::Refusal;
 
 pub const LONGEST_INPUT: usize = 65535;
 
@@ -21,10 +22,9 @@ const CHART_ASIDE: usize = 1113;
 
 const LIST_ASIDE: usize = 1536;
 
-// How many bytes were kept and how many listed; both 0 beside a refusal.
+// How many bytes were kept and how many listed.
 #[derive(Clone, Copy)]
-pub struct Mended {
-    pub refusal: u8,
+pub struct MendedSizes {
     pub kept: usize,
     pub listed: usize,
 }
@@ -37,13 +37,13 @@ pub struct Sorted {
     pub listed: usize,
 }
 
-// An entry of the list: a place in two bytes, then a number.
-fn entry(at: usize, refusal: u8) -> [u8; 3]
+// An entry of the list: a place in two bytes, then a refusal's number.
+fn entry(at: usize, refusal: Refusal) -> [u8; 3]
     requires { at < 65536 }
-    ensures { result ≡ word_bytes at ++ (refusal ∷ []) }
+    ensures { result ≡ word_bytes at ++ (number refusal ∷ []) }
 {
     let [high, low] = (at as u16).to_be_bytes();
-    [high, low, refusal]
+    [high, low, refusal.number()]
 }
 
 // One pass over the fields: those that are kept into `out`, an entry for each other into `list`, each from the front. What does not fit is counted, not stored.
@@ -51,69 +51,51 @@ fn sort(input: &[u8], out: &mut [u8], list: &mut [u8]) -> Sorted
     requires { length input.now ≤ longest_input }
     ensures { PassedOver input.now out.old list.old result out.new list.new }
 {
-    let mut keys = [0u32; 16];
-    let mut akeys = [0u32; 48];
-    let mut bkeys = [0u32; 48];
-    let mut counts = Counts {
-        nodes: 0,
-        links: 0,
-        form: PLAIN,
-        asked: false,
-    };
+    let mut keys = no_keys();
     let mut kept: usize = 0;
     let mut listed: usize = 0;
     let mut at: usize = 0;
     while at < input.len() {
-        let t = take_field(&mut keys, &mut akeys, &mut bkeys, counts, input, at);
         let next = field_end(input, at);
-        counts = t.counts;
-        if t.refusal == 0 {
-            buffer::put_all(out, kept, &input[at..next]);
-            kept += next - at;
-        } else {
-            buffer::put_all(list, listed, &entry(at, t.refusal));
-            listed += ENTRY_SIZE;
+        match take_field(&mut keys, input, at) {
+            Ok(()) => {
+                buffer::put_all(out, kept, &input[at..next]);
+                kept += next - at;
+            }
+            Err(refusal) => {
+                buffer::put_all(list, listed, &entry(at, refusal));
+                listed += ENTRY_SIZE;
+            }
         }
         at = next;
     }
     Sorted {
-        asked: counts.asked,
+        asked: keys.counts.asked,
         kept,
         listed,
     }
 }
 
-// A refusal.
-fn refused(refusal: u8) -> Mended
-    ensures { result ≡ record { refusal = refusal; kept = 0; listed = 0 } }
-{
-    Mended {
-        refusal,
-        kept: 0,
-        listed: 0,
-    }
-}
-
 // The fields of the input that the reader would take, each after those kept before it, into `out`; for each of the others its place and number into `list`.
-pub fn mend(input: &[u8], out: &mut [u8], list: &mut [u8]) -> Mended
-    ensures value { result ≡ mend_of input.now (length out.old) (length list.old) }
+pub fn mend(input: &[u8], out: &mut [u8], list: &mut [u8]) -> Result<MendedSizes, Refusal>
+    ensures value { Answers result (mend_of input.now (length out.old) (length list.old)).refusal (sizes_of (mend_of input.now (length out.old) (length list.old))) }
     ensures chart { out.new ≡ lent_after (mend_refusal input.now (length out.old) (length list.old)) (kept_bytes input.now) out.old }
     ensures list { list.new ≡ lent_after (mend_refusal input.now (length out.old) (length list.old)) (list_bytes input.now) list.old }
 {
     if LONGEST_INPUT < input.len() {
-        return refused(33);
+        return Err(Refusal::ChartLong);
     }
     let mut chart = [0u8; CHART_ASIDE];
     let mut entries = [0u8; LIST_ASIDE];
     let s = sort(input, &mut chart, &mut entries);
     if !s.asked {
-        return refused(31);
+        return Err(Refusal::ChartUnasked);
     }
     if out.len() < s.kept {
-        return refused(10);
+        return Err(Refusal::NoRoom);
     }
     if list.len() < s.listed {
-        return refused(10);
+        return Err(Refusal::NoRoom);
     }
     if (s.kept <= CHART_ASIDE) & (s.listed <= LIST_ASIDE) {
         buffer::put_all(out, 0, &chart[..s.kept]);
@@ -121,9 +103,8 @@ pub fn mend(input: &[u8], out: &mut [u8], list: &mut [u8]) -> Mended
     } else {
         sort(input, out, list);
     }
-    Mended {
-        refusal: 0,
+    Ok(MendedSizes {
         kept: s.kept,
         listed: s.listed,
-    }
+    })
 }

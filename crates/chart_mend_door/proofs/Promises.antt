@@ -1,6 +1,6 @@
 -- The theorems on pz_mend: what it keeps is a chart that the reader takes, and so no longer than any; and which numbers it gives.
 use Prim.Native.Nat.{ℕ, zero, suc, ◌%◌, ◌≤◌}
-use mathlib.Core.Path.{◌≡◌, refl, ap, ap₂, ◌∙◌}
+use mathlib.Core.Path.{◌≡◌, refl, sym, ap, ap₂, ◌∙◌}
 use mathlib.Core.List.{List}
 use mathlib.Core.Bool.{not}
 use native.Mathlib.Omega.{arith}
@@ -11,11 +11,11 @@ use Rattle.lists.specs.Refusals.{unless_refused}
 use Rattle.lists.proofs.Refusals.{taken, refused}
 use Rattle.lists.proofs.Given.{Given, tested}
 use Rattle.buffer.specs.Bytes.{Bytes}
-use Rattle.chart_read.specs.declared.ChartRead.{ChartRead}
-use Rattle.chart_read.specs.Reading.{read_chart_of}
+use Rattle.chart_read.specs.Reading.{ChartRead, read_chart_of}
 use Rattle.chart_write.specs.Writing.{longest_chart}
 use Rattle.chart_write.proofs.Promises.{write_undoes_read}
-use Rattle.chart_mend.specs.Mending.{held_of, kept_bytes, list_bytes, mend_refusal, mend_of}
+use Rattle.chart_mend.specs.declared.MendedSizes.{MendedSizes}
+use Rattle.chart_mend.specs.Mending.{held_of, kept_bytes, list_bytes, mend_refusal, mend_of, sizes_of}
 use Rattle.chart_mend.specs.Promises.{longest_list}
 use Rattle.chart_mend.proofs.Promises.{kept-is-accepted}
 use Rattle.chart_mend.proofs.Sizes.{all-sizes, list-fits, bytes-kept}
@@ -46,6 +46,25 @@ module _ (input : List ℕ) (room list_room : ℕ) where
   listed-short =
       within (mend_refusal input room list_room) _ _
       (λ z. let p = passed input room list_room z in list-fits input p.short p.asked)
+
+  -- what C gets of both sizes: those of the call, and 0 beside a refusal
+  module _ {s : MendedSizes} (e : s ≡ sizes_of (mend_of input room list_room)) where
+    pub kept-is : s.kept ≡ pz_mend_kept input room list_room
+    unfolding pz_mend_kept
+    kept-is = ap (λ (x : MendedSizes). x.kept) e
+
+    pub listed-is : s.listed ≡ pz_mend_listed input room list_room
+    unfolding pz_mend_listed
+    listed-is = ap (λ (x : MendedSizes). x.listed) e
+
+  module _ {k : ℕ} (e : k ≡ (mend_of input room list_room).refusal) (h : k ≡ 0 → ⊥) where
+    pub none-kept : 0 ≡ pz_mend_kept input room list_room
+    unfolding pz_mend_kept mend_of
+    none-kept = sym (refused _ 0 _ (λ z. h (e ∙ z)))
+
+    pub none-listed : 0 ≡ pz_mend_listed input room list_room
+    unfolding pz_mend_listed mend_of
+    none-listed = sym (refused _ 0 _ (λ z. h (e ∙ z)))
 
 -- beside no refusal: what is left in the chart that was lent, and how much is listed
 kept_there : (input chart list : List ℕ) → mend_refusal input (length chart) (length list) ≡ 0

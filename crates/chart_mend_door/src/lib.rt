@@ -14,8 +14,16 @@ pub fn pz_mend(
 ) -> u8
     ensures { (result ≡ pz_mend_refusal input.now (length chart.old) (length list.old)) × (kept.new ≡ pz_mend_kept input.now (length chart.old) (length list.old)) × (listed.new ≡ pz_mend_listed input.now (length chart.old) (length list.old)) × (chart.new ≡ pz_mend_chart input.now chart.old list.old) × (list.new ≡ pz_mend_list input.now chart.old list.old) }
 {
-    let m = chart_mend::mend(input, chart, list);
-    *kept = m.kept as u16;
-    *listed = m.listed as u32;
-    m.refusal
+    match chart_mend::mend(input, chart, list) {
+        Ok(sizes) => {
+            *kept = sizes.kept as u16;
+            *listed = sizes.listed as u32;
+            0
+        }
+        Err(refusal) => {
+            *kept = 0;
+            *listed = 0;
+            refusal.number()
+        }
+    }
 }

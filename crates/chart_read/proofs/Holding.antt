@@ -14,15 +14,17 @@ use Rattle.address.specs.declared.Station.{Station}
 use Rattle.address_bytes.specs.Wide.{station_in}
 use Rattle.chart.specs.declared.ChartNode.{ChartNode}
 use Rattle.chart.specs.declared.Link.{Link}
+use Rattle.chart.specs.declared.Chart.{Chart}
 use Rattle.chart.specs.Values.{most_nodes, most_links, no_node, no_link, no_chart}
 use Rattle.chart_read.specs.declared.Counts.{Counts}
+use Rattle.chart_read.specs.declared.Keys.{Keys}
 use Rattle.chart_read.specs.Fields.{is_form, tag_at, body_at, past_field, node_in, link_in}
-use Rattle.chart_read.specs.Reading.{SoFar, nothing, with_node, with_link, with_question, with_body, Refusing, refusing, body_refusal, field_refusal, refused_at, read_chart_of}
-use Rattle.chart_read.specs.Private.{Keys, refusing_by, TakesField}
+use Rattle.chart_read.specs.Reading.{SoFar, nothing, with_node, with_link, with_question, with_body, Refusing, refusing, body_refusal, field_refusal, ChartRead, refused_at, read_chart_of}
+use Rattle.chart_read.specs.Private.{no_keys, refusing_by, TakesField}
 use Rattle.chart_read.proofs.Walking.{held_past, Reaches, reach-start, reach-next, reach-refused, reach-end, end-unasked, end-asked}
 use Rattle.chart_read.proofs.Laws.{link-length-bounds, with-node, with-link, with-question, node-zero, link-zero, node-bounds, link-bounds, whole, body-zero}
 use Rattle.chart_read.proofs.Keyed.{counts_of}
-use Rattle.chart_read.proofs.Taking.{HeldKeys, no_keys, none-held, held-refusal, held-keys}
+use Rattle.chart_read.proofs.Taking.{HeldKeys, none-held, held-refusal, held-keys}
 
 -- the loop's variables
 pub record Turn : Type 0 where
@@ -49,16 +51,17 @@ pub record Holding (bytes : List ℕ) (t : Turn) : Type 0 where
   pub held : HeldKeys (so_far_of t) t.keys
 
 -- before the first field
-abbrev pub first_turn : ChartNode → Link → Turn
-first_turn n l = record { nodes = replicate most_nodes n; links = replicate most_links l; from = n.station; to = n.station; keys = no_keys; at = 0 }
+abbrev pub first_turn : ChartNode → Link → Keys → Turn
+first_turn n l k = record { nodes = replicate most_nodes n; links = replicate most_links l; from = n.station; to = n.station; keys = k; at = 0 }
 
-nothing_yet : (bytes : List ℕ) → Holding bytes (first_turn no_node no_link)
+nothing_yet : (bytes : List ℕ) → Holding bytes (first_turn no_node no_link no_keys)
 unfolding no_chart nothing
 nothing_yet bytes = record { reaches = reach-start bytes; held = none-held }
 
-pub holding-start : (bytes : List ℕ) (n : ChartNode) (l : Link) → n ≡ no_node → l ≡ no_link → Holding bytes (first_turn n l)
-holding-start bytes n l e f =
-    subst (λ (x : ChartNode). Holding bytes (first_turn x l)) (sym e) (subst (λ (y : Link). Holding bytes (first_turn no_node y)) (sym f) (nothing_yet bytes))
+pub holding-start : (bytes : List ℕ) (n : ChartNode) (l : Link) (k : Keys) → n ≡ no_node → l ≡ no_link → k ≡ no_keys → Holding bytes (first_turn n l k)
+holding-start bytes n l k e f g =
+    subst (λ (x : ChartNode). Holding bytes (first_turn x l k)) (sym e)
+    (subst (λ (y : Link). Holding bytes (first_turn no_node y k)) (sym f) (subst (λ (z : Keys). Holding bytes (first_turn no_node no_link z)) (sym g) (nothing_yet bytes)))
 
 abbrev pub refusal_of : List ℕ → Turn → ℕ
 refusal_of bytes t = field_refusal (refusing_by t.keys) bytes t.at
@@ -81,8 +84,8 @@ abbrev pub field-here : {bytes : List ℕ} {t : Turn} → Holding bytes t → ((
 field-here h b l = record { holding = h; all-bytes = λ i. omega (arith, b i); begins = l }
 
 abbrev pub field-taken : {bytes : List ℕ} {t : Turn} → Holding bytes t → ((i : ℕ) → Fits w8 (get_or bytes i 0)) → t.at < length bytes
-    → {k : ℕ} → k ≡ refusal_of bytes t → k ≡ 0 → {b : List ℕ} → b ≡ body_at bytes t.at → {next : ℕ} → next ≡ past_field bytes t.at → Accepted bytes t b next
-field-taken h b l e z d p = record { field = field-here h b l; zero = sym e ∙ z; body = d; past = p }
+    → 0 ≡ refusal_of bytes t → {b : List ℕ} → b ≡ body_at bytes t.at → {next : ℕ} → next ≡ past_field bytes t.at → Accepted bytes t b next
+field-taken h b l e d p = record { field = field-here h b l; zero = sym e; body = d; past = p }
 
 module _ {bytes : List ℕ} {t : Turn} (f : Field bytes t) where
   refusal-same : refusal_of bytes t ≡ field_refusal (refusing (so_far_of t)) bytes t.at
@@ -168,3 +171,10 @@ module _ (bytes : List ℕ) (t : Turn) (h : Holding bytes t) (l : length bytes �
 
   pub ends_asked : t.keys.counts.asked ≡ true → record { refusal = 0; place = 0; chart = (so_far_of t).chart } ≡ read_chart_of bytes
   ends_asked e = end-asked (so_far_of t) (length bytes) e ∙ reach-end bytes (so_far_of t) t.at l h.reaches
+
+-- what stands in a reading, part by part
+pub parts-refused : {k place : ℕ} {r : ChartRead} → refused_at k place ≡ r → (k ≡ r.refusal) × (place ≡ r.place)
+parts-refused e = (ap (λ (x : ChartRead). x.refusal) e, ap (λ (x : ChartRead). x.place) e)
+
+pub parts-read : {chart : Chart} {r : ChartRead} → record { refusal = 0; place = 0; chart = chart } ≡ r → (r.refusal ≡ 0) × ((r.place ≡ 0) × (chart ≡ r.chart))
+parts-read e = (sym (ap (λ (x : ChartRead). x.refusal) e), (sym (ap (λ (x : ChartRead). x.place) e), ap (λ (x : ChartRead). x.chart) e))

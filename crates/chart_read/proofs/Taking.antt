@@ -4,7 +4,7 @@ use mathlib.Core.Path.{◌≡◌, refl, sym, ap, ap₂, subst, ◌∙◌}
 use mathlib.Core.List.{List}
 use mathlib.Core.Bool.{Bool, true, false, not}
 use native.Mathlib.Omega.{arith}
-use lib.ListN.{length, set, replicate, length-set}
+use lib.ListN.{length, set, length-set}
 use lib.Dec.{ltb, leb, eqb}
 use borrow.Author.Tests.{eq-eqb, eqb-true, leb-false}
 use Rattle.buffer.specs.Bytes.{Bytes}
@@ -16,9 +16,10 @@ use Rattle.chart.specs.Refusals.{node_refusal_by, link_refusal_by}
 use Rattle.chart_refuse.specs.Private.{station_key, end_key, StationKeyed, KeyedNodes, KeyedLinks, node_refusal_by_keys, link_refusal_by_keys}
 use Rattle.chart_refuse.proofs.ByKeys.{keyed-node, keyed-link}
 use Rattle.chart_read.specs.declared.Counts.{Counts}
+use Rattle.chart_read.specs.declared.Keys.{Keys}
 use Rattle.chart_read.specs.Fields.{is_form, tag_at, body_at, past_field, node_in, link_in}
 use Rattle.chart_read.specs.Reading.{SoFar, nothing, node_added, link_added, with_node, with_link, with_question, with_body, refusing, node_body_refusal, link_body_refusal, body_refusal, field_refusal}
-use Rattle.chart_read.specs.Private.{Keys, as_keys, link_after_keys, refusing_by, with_node_key, with_link_keys, with_asked, keys_with, Takes, TakesField}
+use Rattle.chart_read.specs.Private.{no_keys, as_keys, link_after_keys, refusing_by, with_node_key, with_link_keys, with_asked, keys_with, Takes, TakesField}
 use Rattle.chart_read.proofs.Laws.{tag-first, tag-later, form-no-node, with-node, with-link, with-question, node-zero, link-zero, node-bounds, link-bounds, body-zero, field-whole}
 use Rattle.chart_read.proofs.Fields.{bytes-body}
 use Rattle.chart_read.proofs.Keyed.{end_fits, counts_of, field-same}
@@ -100,9 +101,6 @@ pub record HeldKeys (s : SoFar) (t : Keys) : Type 0 where
   pub long-bkeys : length t.bkeys ≡ 48
 
 -- before the first field
-abbrev pub no_keys : Keys
-no_keys = as_keys (replicate 16 0) (replicate 48 0) (replicate 48 0) (record { nodes = 0; links = 0; form = 2; asked = false })
-
 pub none-held : HeldKeys nothing no_keys
 unfolding nothing no_chart
 none-held =

@@ -8,9 +8,8 @@ use lib.Dec.{leb}
 use lib.ListN.{length}
 use borrow.Author.Tests.{lt-leb, le-leb}
 use Rattle.chart.specs.declared.Chart.{Chart}
-use Rattle.chart_read.specs.declared.ChartRead.{ChartRead}
 use Rattle.chart_read.specs.Fields.{tag_at, body_at, past_field}
-use Rattle.chart_read.specs.Reading.{SoFar, nothing, with_body, refusing, field_refusal, refused_at, at_end, onward, walk, read_chart_of}
+use Rattle.chart_read.specs.Reading.{SoFar, nothing, with_body, refusing, field_refusal, ChartRead, refused_at, at_end, onward, walk, read_chart_of}
 
 -- what is held after the field at a place
 abbrev pub held_past : SoFar → List ℕ → ℕ → SoFar

@@ -1,22 +1,20 @@
 -- Taking one field of a walk, as the code does: by the keys of the nodes and links before it.
-use Rattle.std.specs.Prelude.{ℕ, ◌+◌, ◌≡◌, List, Bool, true, not, cond, ◌&&◌, ◌||◌, length, set, ltb, eqb}
+use Rattle.std.specs.Prelude.{ℕ, ◌+◌, ◌≡◌, List, Bool, true, false, not, cond, ◌&&◌, ◌||◌, length, set, replicate, ltb, eqb}
 use Rattle.lists.specs.Refusals.{unless_refused}
 use Rattle.chart.specs.declared.ChartNode.{ChartNode}
 use Rattle.chart.specs.declared.Link.{Link}
 use Rattle.chart_refuse.specs.Private.{station_key, end_key, node_refusal_by_keys, link_refusal_by_keys, question_refusal_by_keys}
 use Rattle.chart_read.specs.declared.Counts.{Counts}
+use Rattle.chart_read.specs.declared.Keys.{Keys}
 use Rattle.chart_read.specs.Fields.{node_tag, is_form, tag_at, body_at, past_field, cut_short, node_in, link_in}
 use Rattle.chart_read.specs.Reading.{Refusing, body_refusal, field_refusal}
 
--- the keys of the nodes that were taken and of both ends of the links, how many those are, and the form of the links
-pub record Keys : Type 0 where
-  pub keys : List ℕ
-  pub akeys : List ℕ
-  pub bkeys : List ℕ
-  pub counts : Counts
-
 abbrev pub as_keys : List ℕ → List ℕ → List ℕ → Counts → Keys
 as_keys keys akeys bkeys c = record { keys = keys; akeys = akeys; bkeys = bkeys; counts = c }
+
+-- before the first field
+abbrev pub no_keys : Keys
+no_keys = as_keys (replicate 16 0) (replicate 48 0) (replicate 48 0) (record { nodes = 0; links = 0; form = 2; asked = false })
 
 -- the numbers after them
 unfoldable pub link_late_by : Counts → ℕ → Bool

@@ -10,7 +10,6 @@ use Rattle.chart.specs.declared.Links.{Links}
 use Rattle.chart.specs.declared.Chart.{Chart}
 use Rattle.chart.specs.Values.{no_chart}
 use Rattle.chart.specs.Refusals.{node_refusal, link_refusal, question_refusal}
-use Rattle.chart_read.specs.declared.ChartRead.{ChartRead}
 use Rattle.chart_read.specs.Fields.{node_tag, question_tag, is_form, shortest_node, longest_node, link_length, question_length, tag_at, body_at, past_field, cut_short, node_in, link_in}
 
 -- ---- what is held
@@ -118,6 +117,12 @@ unfoldable pub field_refusal : Refusing → List ℕ → ℕ → ℕ
 field_refusal r bytes at = refuse 21 (cut_short bytes at) (body_refusal r (tag_at bytes at) (body_at bytes at))
 
 -- ---- all fields
+
+-- the chart, or the number of the first bad field and the place where it begins
+pub record ChartRead : Type 0 where
+  pub refusal : ℕ
+  pub place : ℕ
+  pub chart : Chart
 
 -- a refusal and the place where its field begins, beside a chart of zeros
 abbrev pub refused_at : ℕ → ℕ → ChartRead

@@ -1,30 +1,23 @@
 // The chart's reader (document 01, "The chart"; document 02, Five): tagged fields, taken one after the other.
 #![tactic(auto)]
 
-ghost use Rattle.std.specs.Prelude.{◌≡◌};
-ghost use Rattle.chart_read.specs.Reading.{refused_at, read_chart_of};
+ghost use Rattle.refusal.specs.Numbers.{AnswersAt};
+ghost use Rattle.chart_read.specs.Reading.{read_chart_of};
 
 use bodies::{body_at, link_in, node_in, past_field};
 use chart::{Chart, DIRECTED, Links, Nodes, PLAIN};
+use refusal::{Fault, Refusal};
 
 mod bodies;
-mod keys;
 mod numbers;
+mod take;
 
 pub use bodies::field_end;
-pub use keys::take_field;
 pub use numbers::{
     DIRECTED_LENGTH, NODE_TAG, PLAIN_LENGTH, QUESTION_LENGTH, QUESTION_TAG, SHORTEST_NODE,
     link_length,
 };
-
-// The chart, or the number of the first bad field and the place where it begins.
-#[derive(Clone, Copy)]
-pub struct ChartRead {
-    pub refusal: u8,
-    pub place: usize,
-    pub chart: Chart,
-}
+pub use take::{no_keys, take_field};
 
 // How many nodes and links were taken, the form of the links, and whether the question was.
 #[derive(Clone, Copy)]
@@ -35,28 +28,19 @@ pub struct Counts {
     pub asked: bool,
 }
 
-// A field's refusal, and the counts after it.
+// The keys of the nodes that were taken, and of the first and the second ends of the links, as many as the counts say.
 #[derive(Clone, Copy)]
-pub struct Taken {
-    pub refusal: u8,
+pub struct Keys {
+    pub keys: [u32; 16],
+    pub akeys: [u32; 48],
+    pub bkeys: [u32; 48],
     pub counts: Counts,
 }
 
-// A refusal and its place, with a chart of zeros.
-fn refused_at(refusal: u8, place: usize) -> ChartRead
-    ensures { result ≡ refused_at refusal place }
-{
-    ChartRead {
-        refusal,
-        place,
-        chart: chart::no_chart(),
-    }
-}
-
-// The chart that the bytes are, or the number of the first bad field and its place. The keys of its nodes and of its links' ends are kept beside
+// The chart that the bytes are, or what refuses the first bad field and its place. The keys of its nodes and of its links' ends are kept beside
 // them, so that a field is compared with those before it by one number each.
-pub fn read_chart(bytes: &[u8]) -> ChartRead
-    ensures { result ≡ read_chart_of bytes.now }
+pub fn read_chart(bytes: &[u8]) -> Result<Chart, Fault>
+    ensures { AnswersAt result (read_chart_of bytes.now).refusal (read_chart_of bytes.now).place (read_chart_of bytes.now).chart }
 {
     let no_node = chart::no_node();
     let no_link = chart::no_link();
@@ -64,26 +48,16 @@ pub fn read_chart(bytes: &[u8]) -> ChartRead
     let mut links = [no_link; 48];
     let mut from = no_node.station;
     let mut to = no_node.station;
-    let mut keys = [0u32; 16];
-    let mut akeys = [0u32; 48];
-    let mut bkeys = [0u32; 48];
-    let mut counts = Counts {
-        nodes: 0,
-        links: 0,
-        form: PLAIN,
-        asked: false,
-    };
+    let mut keys = no_keys();
     let mut at: usize = 0;
     while at < bytes.len() {
-        let t = take_field(&mut keys, &mut akeys, &mut bkeys, counts, bytes, at);
-        if t.refusal != 0 {
-            return refused_at(t.refusal, at);
+        let n = keys.counts.nodes;
+        let m = keys.counts.links;
+        if let Err(refusal) = take_field(&mut keys, bytes, at) {
+            return Err(Fault { refusal, place: at });
         }
         let b = body_at(bytes, at);
         let tag = bytes[at];
-        let n = counts.nodes;
-        let m = counts.links;
-        counts = t.counts;
         at = past_field(bytes, at);
         match tag {
             NODE_TAG => nodes[n] = node_in(b),
@@ -94,24 +68,23 @@ pub fn read_chart(bytes: &[u8]) -> ChartRead
             }
         }
     }
-    if !counts.asked {
-        return refused_at(31, bytes.len());
+    if !keys.counts.asked {
+        return Err(Fault {
+            refusal: Refusal::ChartUnasked,
+            place: bytes.len(),
+        });
     }
-    ChartRead {
-        refusal: 0,
-        place: 0,
-        chart: Chart {
-            nodes: Nodes {
-                count: counts.nodes as u8,
-                items: nodes,
-            },
-            links: Links {
-                count: counts.links as u8,
-                form: counts.form,
-                items: links,
-            },
-            from,
-            to,
+    Ok(Chart {
+        nodes: Nodes {
+            count: keys.counts.nodes as u8,
+            items: nodes,
         },
-    }
+        links: Links {
+            count: keys.counts.links as u8,
+            form: keys.counts.form,
+            items: links,
+        },
+        from,
+        to,
+    })
 }

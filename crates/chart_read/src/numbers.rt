@@ -1,11 +1,13 @@
-// The number of a body, by the keys of the nodes and links before it: the first n of `keys`, the first m of `akeys` and `bkeys`.
+// What refuses a body, by the keys of the nodes and links before it: the first n of `keys`, the first m of `akeys` and `bkeys`.
 ghost use Rattle.std.specs.Prelude.{◌≡◌};
+ghost use Rattle.refusal.specs.Numbers.{number_in};
 ghost use Rattle.chart_refuse.specs.Private.{node_refusal_by_keys, link_refusal_by_keys, question_refusal_by_keys};
 ghost use Rattle.chart_read.specs.Fields.{link_length};
 ghost use Rattle.chart_read.specs.Reading.{node_body_refusal, link_body_refusal, question_body_refusal};
 
 use crate::bodies::{link_in, node_in};
 use chart::DIRECTED;
+use refusal::Refusal;
 
 pub const NODE_TAG: u8 = 1;
 
@@ -22,14 +24,14 @@ pub const DIRECTED_LENGTH: usize = 10;
 pub const QUESTION_LENGTH: usize = 6;
 
 // A node's body.
-pub fn node_body_refusal(late: bool, keys: &[u32; 16], n: usize, b: &[u8]) -> u8
-    ensures { result ≡ node_body_refusal (node_refusal_by_keys late keys.now n) b.now }
+pub fn node_body_refusal(late: bool, keys: &[u32; 16], n: usize, b: &[u8]) -> Result<(), Refusal>
+    ensures { number_in result ≡ node_body_refusal (node_refusal_by_keys late keys.now n) b.now }
 {
     if b.len() < SHORTEST_NODE {
-        return 23;
+        return Err(Refusal::ChartLength);
     }
     if LONGEST_NODE < b.len() {
-        return 23;
+        return Err(Refusal::ChartLength);
     }
     let node = node_in(b);
     chart_refuse::node_refusal(late, keys, n, node)
@@ -55,25 +57,30 @@ pub fn link_body_refusal(
     bkeys: &[u32; 48],
     m: usize,
     b: &[u8],
-) -> u8
-    ensures { result ≡ link_body_refusal form (link_refusal_by_keys late form keys.now n akeys.now bkeys.now m) b.now }
+) -> Result<(), Refusal>
+    ensures { number_in result ≡ link_body_refusal form (link_refusal_by_keys late form keys.now n akeys.now bkeys.now m) b.now }
 {
     if b.len() != link_length(form) {
-        return 23;
+        return Err(Refusal::ChartLength);
     }
     if 1 < b[8] {
-        return 24;
+        return Err(Refusal::ChartRange);
     }
     let l = link_in(b);
     chart_refuse::link_refusal(late, form, keys, n, akeys, bkeys, m, l)
 }
 
 // The question's body.
-pub fn question_body_refusal(asked: bool, keys: &[u32; 16], n: usize, b: &[u8]) -> u8
-    ensures { result ≡ question_body_refusal (question_refusal_by_keys asked keys.now n) b.now }
+pub fn question_body_refusal(
+    asked: bool,
+    keys: &[u32; 16],
+    n: usize,
+    b: &[u8],
+) -> Result<(), Refusal>
+    ensures { number_in result ≡ question_body_refusal (question_refusal_by_keys asked keys.now n) b.now }
 {
     if b.len() != QUESTION_LENGTH {
-        return 23;
+        return Err(Refusal::ChartLength);
     }
     let from = address_bytes::station_in(b, 0);
     let to = address_bytes::station_in(b, 3);

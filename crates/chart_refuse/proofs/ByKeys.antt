@@ -5,13 +5,13 @@ use mathlib.Core.List.{List}
 use mathlib.Core.Bool.{Bool, true, false, not, ◌&&◌, ◌||◌}
 use native.Mathlib.Omega.{arith}
 use lib.ListN.{length, get_or, set, take}
-use Rattle.std.proofs.lemmas.List.{length-take-le, get_or-take}
 use lib.Seq.{get_or-set_same, get_or-set_other, ext_get_or}
 use lib.Dec.{eqb}
+use Rattle.std.specs.List.{list_any}
 use borrow.Author.Tests.{eqb-true, eqb-false, eq-eqb}
 use Rattle.lists.specs.Places.{any_below, element_at}
 use Rattle.lists.specs.Refusals.{refuse}
-use Rattle.lists.proofs.Places.{any-or, any-agree}
+use Rattle.lists.proofs.Places.{any-or, any-agree, any-taken}
 use Rattle.lists.proofs.Bools.{both-same, and_left, and_right, and_both}
 use Rattle.address.specs.declared.Station.{Station}
 use Rattle.address.specs.declared.Address.{Address}
@@ -34,10 +34,13 @@ pub used-by : (akeys bkeys : List ℕ) (m : ℕ) (a : Address) {k : ℕ} → End
 unfolding used_by
 used-by akeys bkeys m a e = ap (λ (k : ℕ). any_below (key_is akeys k) m || any_below (key_is bkeys k) m) e.key
 
--- the first n keys are looked at alone
-pub has-first : (keys : List ℕ) (n k : ℕ) → n ≤ length keys → any_below (key_is (take n keys) k) (length (take n keys)) ≡ any_below (key_is keys k) n
-unfolding key_is
-has-first keys n k h = rw (length-take-le n keys h) (any-agree _ _ n (λ i l. ap (λ (x : ℕ). eqb x k) (get_or-take n keys i 0 l)))
+eqb-sym : (a b : ℕ) → eqb a b ≡ eqb b a
+eqb-sym a b = both-same _ _ (λ e. eq-eqb _ _ (sym (eqb-true _ _ e))) (λ e. eq-eqb _ _ (sym (eqb-true _ _ e)))
+
+-- a key is looked for among the first n alone
+pub holds-key : (keys : List ℕ) (n k : ℕ) → n ≤ length keys → list_any (eqb k) (take n keys) ≡ any_below (key_is keys k) n
+unfolding key_is element_at
+holds-key keys n k h = any-taken (eqb k) 0 keys n h ∙ any-agree _ _ n (λ i l. eqb-sym k (get_or keys i 0))
 
 -- ---- one key, one station; one key, one end
 

@@ -1,6 +1,7 @@
-// The number of a chart given as values (document 01, "The chart"). Nodes and ends are compared by their keys.
+// What refuses a chart given as values (document 01, "The chart"). Nodes and ends are compared by their keys.
 ghost use Rattle.std.specs.Prelude.{◌≡◌, ◌≤◌, length};
 ghost use Rattle.lists.specs.Chains.{first_refusal_below};
+ghost use Rattle.refusal.specs.Numbers.{number_in};
 ghost use Rattle.chart_refuse.specs.Private.{KeyedNodes, KeyedLinks};
 ghost use Rattle.chart_refuse.specs.Refusal.{node_refusal_at, link_refusal_at, chart_refusal};
 ghost use Rattle.chart.specs.Values.{most_links, most_nodes};
@@ -8,6 +9,7 @@ ghost use Rattle.chart.specs.Values.{most_links, most_nodes};
 use crate::keys::{end_key, station_keys};
 use crate::numbers::{link_refusal, node_refusal, question_refusal};
 use chart::{Chart, Links, MOST_LINKS, MOST_NODES, Nodes};
+use refusal::Refusal;
 
 // The keys of the links' first ends, and of their second ends.
 fn link_keys(links: Links, akeys: &mut [u32; 48], bkeys: &mut [u32; 48])
@@ -21,66 +23,54 @@ fn link_keys(links: Links, akeys: &mut [u32; 48], bkeys: &mut [u32; 48])
     }
 }
 
-// The number of the first bad node, or 0.
-fn nodes_refusal(nodes: Nodes, keys: &[u32; 16]) -> u8
+// What refuses the first bad node.
+fn nodes_refusal(nodes: Nodes, keys: &[u32; 16]) -> Result<(), Refusal>
     requires { (nodes.count ≤ most_nodes) × KeyedNodes nodes keys.now }
-    ensures { result ≡ first_refusal_below (node_refusal_at nodes) nodes.count }
+    ensures { number_in result ≡ first_refusal_below (node_refusal_at nodes) nodes.count }
 {
     let n = nodes.count as usize;
     for (i, node) in nodes.items[..n].iter().enumerate() {
-        let k = node_refusal(false, keys, i, *node);
-        if k != 0 {
-            return k;
-        }
+        node_refusal(false, keys, i, *node)?;
     }
-    0
+    Ok(())
 }
 
-// The number of the first bad link, or 0.
+// What refuses the first bad link.
 fn links_refusal(
     nodes: Nodes,
     keys: &[u32; 16],
     links: Links,
     akeys: &[u32; 48],
     bkeys: &[u32; 48],
-) -> u8
+) -> Result<(), Refusal>
     requires { (links.count ≤ most_links) × KeyedNodes nodes keys.now × KeyedLinks links akeys.now bkeys.now }
-    ensures { result ≡ first_refusal_below (link_refusal_at nodes links) links.count }
+    ensures { number_in result ≡ first_refusal_below (link_refusal_at nodes links) links.count }
 {
     let n = nodes.count as usize;
     let m = links.count as usize;
     for (i, l) in links.items[..m].iter().enumerate() {
-        let k = link_refusal(false, links.form, keys, n, akeys, bkeys, i, *l);
-        if k != 0 {
-            return k;
-        }
+        link_refusal(false, links.form, keys, n, akeys, bkeys, i, *l)?;
     }
-    0
+    Ok(())
 }
 
-// The number that refuses a chart, or 0: the counts first, then the first bad value.
-pub fn chart_refusal(c: Chart) -> u8
-    ensures { result ≡ chart_refusal c }
+// What refuses a chart: the counts first, then the first bad value.
+pub fn chart_refusal(c: Chart) -> Result<(), Refusal>
+    ensures { number_in result ≡ chart_refusal c }
 {
     let nodes = c.nodes;
     if MOST_NODES < nodes.count {
-        return 26;
+        return Err(Refusal::ChartCrowd);
     }
     let links = c.links;
     if MOST_LINKS < links.count {
-        return 26;
+        return Err(Refusal::ChartCrowd);
     }
     let keys = station_keys(nodes);
-    let k = nodes_refusal(nodes, &keys);
-    if k != 0 {
-        return k;
-    }
+    nodes_refusal(nodes, &keys)?;
     let mut akeys = [0u32; 48];
     let mut bkeys = [0u32; 48];
     link_keys(links, &mut akeys, &mut bkeys);
-    let k = links_refusal(nodes, &keys, links, &akeys, &bkeys);
-    if k != 0 {
-        return k;
-    }
+    links_refusal(nodes, &keys, links, &akeys, &bkeys)?;
     question_refusal(false, &keys, nodes.count as usize, c.from, c.to)
 }

@@ -12,14 +12,11 @@ use borrow.Author.Tests.{lt-ltb, le-ltb, eq-eqb, ne_eqb}
 use Rattle.lists.specs.Places.{element_at, firsts, joined}
 use Rattle.lists.specs.Refusals.{unless_refused}
 use Rattle.buffer.specs.Bytes.{word_bytes}
-use Rattle.buffer.specs.declared.Written.{Written}
-use Rattle.buffer.specs.declared.Written.TheVariants.{Wrote, Refused}
-use Rattle.buffer.specs.Writing.{written_refusal, written_count, wrote_unless}
 use Rattle.lists.proofs.Places.{length-firsts, length-joined, joined-none}
-use Rattle.lists.proofs.Refusals.{or-refused, taken, refused}
+use Rattle.lists.proofs.Refusals.{taken, refused}
+use Rattle.lists.proofs.Chains.{or-stops}
 use Rattle.lists.proofs.Stores.{sets-append, sets-front}
 use Rattle.lists.proofs.Runs.{length-joined-next, joined-within, joined-most}
-use Rattle.buffer.proofs.Writing.{wrote-refusal, wrote_count, wrote-taken, wrote-refused}
 use Rattle.address.specs.declared.Station.{Station}
 use Rattle.address_bytes.specs.Wide.{station_bytes, address_bytes}
 use Rattle.chart.specs.declared.ChartNode.{ChartNode}
@@ -32,7 +29,7 @@ use Rattle.chart.proofs.Laws.{node-taken}
 use Rattle.chart_refuse.specs.Refusal.{chart_refusal}
 use Rattle.chart_read.specs.Fields.{node_tag, question_tag, shortest_node, longest_node, directed_length, link_length, question_length, tagged}
 use Rattle.chart_read.proofs.Laws.{link-length-bounds}
-use Rattle.chart_write.specs.Writing.{node_body, on_byte, direction_bytes, link_body, question_body, node_field, link_field, question_field, head_size, link_field_size, question_field_size, longest_node_field, chart_bytes, chart_write_refusal, write_chart_of, chart_after}
+use Rattle.chart_write.specs.Writing.{node_body, on_byte, direction_bytes, link_body, question_body, node_field, link_field, question_field, head_size, link_field_size, question_field_size, longest_node_field, chart_bytes, chart_write_refusal, chart_after}
 use Rattle.chart_write.specs.Private.{Short}
 use Rattle.chart_refuse.proofs.Laws.{passed, node_of}
 
@@ -162,42 +159,28 @@ short c z =
 
 -- ---- the answer
 
-pub write-told : (c : Chart) (out : List ℕ) (r : Written) → r ≡ write_chart_of c (length out)
-    → (written_refusal r ≡ chart_write_refusal c (length out)) × (written_count r ≡ unless_refused (chart_write_refusal c (length out)) (length (chart_bytes c)) 0)
-unfolding write_chart_of
-write-told c out r e = (ap written_refusal e ∙ wrote-refusal _ _, ap written_count e ∙ wrote_count _ _)
+module _ (c : Chart) (room : ℕ) where
+  pub write-refused : {k : ℕ} → k ≡ chart_refusal c → (k ≡ 0 → ⊥) → k ≡ chart_write_refusal c room
+  unfolding chart_write_refusal
+  write-refused e h = or-stops _ e h
 
--- what is answered, and what the buffer then holds
-pub record Answer (c : Chart) (out : List ℕ) (r : Written) (after : List ℕ) : Type 0 where
-  pub answer : r ≡ write_chart_of c (length out)
-  pub buffer : after ≡ chart_after c out
+  pub write-short : chart_refusal c ≡ 0 → room < length (chart_bytes c) → 10 ≡ chart_write_refusal c room
+  unfolding chart_write_refusal
+  write-short z h = rw (z, lt-ltb room (length (chart_bytes c)) h)
 
-refused_as : (c : Chart) (out : List ℕ) (k : ℕ) → chart_write_refusal c (length out) ≡ k → (k ≡ 0 → ⊥) → Answer c out (Refused k) out
-unfolding write_chart_of chart_after
-refused_as c out k e h = record {
-  answer = wrote-refused k _ h ∙ ap (λ (j : ℕ). wrote_unless j (length (chart_bytes c))) (sym e);
-  buffer = sym (ap (λ (j : ℕ). unless_refused j (chart_bytes c ++ drop (length (chart_bytes c)) out) out) e ∙ refused _ _ k h);
-}
+  pub refusal-none : chart_refusal c ≡ 0 → length (chart_bytes c) ≤ room → chart_write_refusal c room ≡ 0
+  unfolding chart_write_refusal
+  refusal-none z h = rw (z, le-ltb room (length (chart_bytes c)) h)
 
-pub write-refused : (c : Chart) (out : List ℕ) {k : ℕ} → k ≡ chart_refusal c → (k ≡ 0 → ⊥) → Answer c out (Refused k) out
-unfolding chart_write_refusal
-write-refused c out {k} e h = refused_as c out k (or-refused (chart_refusal c) _ (λ z. h (e ∙ z)) ∙ sym e) h
+-- and what the buffer then holds
+module _ (c : Chart) (out : List ℕ) where
+  pub chart-left : {k : ℕ} → k ≡ chart_write_refusal c (length out) → (k ≡ 0 → ⊥) → out ≡ chart_after c out
+  unfolding chart_after
+  chart-left {k} e h = sym (ap (λ (j : ℕ). unless_refused j (chart_bytes c ++ drop (length (chart_bytes c)) out) out) (sym e) ∙ refused _ _ k h)
 
-pub write-short : (c : Chart) (out : List ℕ) → chart_refusal c ≡ 0 → length out < length (chart_bytes c) → Answer c out (Refused 10) out
-write-short c out z h = refused_as c out 10 (ten z) (λ e. omega arith)
-  where
-    ten : chart_refusal c ≡ 0 → chart_write_refusal c (length out) ≡ 10
-    ten z = unfold chart_write_refusal in rw (z, lt-ltb (length out) (length (chart_bytes c)) h)
-
-pub refusal-none : (c : Chart) (room : ℕ) → chart_refusal c ≡ 0 → length (chart_bytes c) ≤ room → chart_write_refusal c room ≡ 0
-unfolding chart_write_refusal
-refusal-none c room z h = rw (z, le-ltb room (length (chart_bytes c)) h)
-
-pub write-wrote : (c : Chart) (out : List ℕ) → chart_refusal c ≡ 0 → length (chart_bytes c) ≤ length out → Answer c out (Wrote (length (chart_bytes c))) (sets out 0 (chart_bytes c))
-unfolding write_chart_of chart_after
-write-wrote c out z h =
-    let e = refusal-none c (length out) z h in
-    record { answer = wrote-taken _ e; buffer = sets-front out (chart_bytes c) h ∙ sym (taken _ _ e) }
+  pub chart-stored : chart_write_refusal c (length out) ≡ 0 → length (chart_bytes c) ≤ length out → sets out 0 (chart_bytes c) ≡ chart_after c out
+  unfolding chart_after
+  chart-stored e h = sets-front out (chart_bytes c) h ∙ sym (taken _ _ e)
 
 -- ---- fields stored in parts
 

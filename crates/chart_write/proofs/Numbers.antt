@@ -15,9 +15,8 @@ use Rattle.chart.specs.declared.Links.{Links}
 use Rattle.chart.specs.declared.Chart.{Chart}
 use Rattle.chart.specs.Values.{node_at, link_at, node_in_range, link_in_range, has_node, has_end}
 use Rattle.chart.specs.Refusals.{node_refusal_by, link_refusal_by, question_refusal_by, node_refusal, link_refusal, question_refusal}
-use Rattle.chart_read.specs.declared.ChartRead.{ChartRead}
 use Rattle.chart_read.specs.Fields.{tag_at, body_at, past_field, cut_short}
-use Rattle.chart_read.specs.Reading.{SoFar, nothing, refusing, field_refusal, refused_at, at_end, onward, walk, read_chart_of}
+use Rattle.chart_read.specs.Reading.{ChartRead, SoFar, nothing, refusing, field_refusal, refused_at, at_end, onward, walk, read_chart_of}
 use Rattle.chart_read.proofs.Walking.{held_past}
 use Rattle.chart_read.proofs.Given.{bad_body_refusals, body_refusals, body-given}
 use Rattle.chart_refuse.specs.Refusal.{nodes_before, links_before, node_refusal_at, link_refusal_at, chart_values_refusal, chart_refusal}

@@ -6,14 +6,12 @@ use native.Mathlib.Omega.{arith}
 use lib.ListN.{length, take, drop}
 use lib.Seq.{take_at}
 use borrow.Author.Tests.{le-ltb}
-use Rattle.buffer.specs.declared.Written.TheVariants.{Wrote}
 use Rattle.lists.proofs.Refusals.{taken, or-pass}
-use Rattle.buffer.proofs.Writing.{wrote-size, wrote-taken}
 use Rattle.chart.specs.declared.Chart.{Chart}
 use Rattle.chart.specs.Values.{link_at}
 use Rattle.chart_read.specs.Reading.{read_chart_of}
 use Rattle.chart_refuse.specs.Refusal.{chart_values_refusal, chart_refusal}
-use Rattle.chart_write.specs.Writing.{chart_bytes, chart_write_refusal, write_chart_of, chart_after, tidy}
+use Rattle.chart_write.specs.Writing.{chart_bytes, chart_write_refusal, chart_after, tidy}
 use Rattle.chart_write.specs.Promises.{ChartReadUndoesWrite, ChartWriteUndoesRead, ChartsShort, PlacesNear, SameRefusal}
 use Rattle.chart_refuse.proofs.Laws.{passed, node_of, link-of}
 use Rattle.chart_write.proofs.Laws.{nodes-most, links-few, length-chart, refusal-none}
@@ -48,9 +46,8 @@ read_back c z =
 
 -- reading undoes writing, of whatever the writer takes
 pub read_undoes_write : ChartReadUndoesWrite
-unfolding write_chart_of chart_after chart_write_refusal
-read_undoes_write c out n h =
-    let w = wrote-size n (chart_write_refusal c (length out)) (length (chart_bytes c)) h in
+unfolding chart_after chart_write_refusal
+read_undoes_write c out n w =
     let z = (or-pass (chart_refusal c) _ w.0).0 in
     let b : take n (chart_after c out) ≡ chart_bytes c =
     ap (take n) (taken _ _ w.0) ∙ take_at (chart_bytes c) (drop (length (chart_bytes c)) out) n (sym w.1) in
@@ -58,7 +55,7 @@ read_undoes_write c out n h =
 
 -- writing undoes reading, of any bytes that the reader takes
 pub write_undoes_read : ChartWriteUndoesRead
-unfolding write_chart_of chart_after
+unfolding chart_after
 write_undoes_read bytes s h out room =
     let c = (read_chart_of bytes).chart in
     let u = (read-good bytes s).undone h in
@@ -67,7 +64,7 @@ write_undoes_read bytes s h out room =
     let e = refusal-none c (length out) z (omega arith) in
     record {
       refusal = z;
-      answer = sym (wrote-taken (length (chart_bytes c)) e) ∙ ap Wrote l;
+      answer = (e, sym l);
       buffer = taken _ _ e ∙ ap (λ (b : List ℕ). b ++ drop (length b) out) u.same;
       short = omega (arith, chart_short c z);
     }

@@ -18,9 +18,8 @@ use Rattle.chart.specs.declared.Links.{Links}
 use Rattle.chart.specs.declared.Chart.{Chart}
 use Rattle.chart.specs.Values.{no_station, no_node, no_link, no_links, no_chart, node_at, link_at}
 use Rattle.chart.specs.Refusals.{link_refusal, question_refusal}
-use Rattle.chart_read.specs.declared.ChartRead.{ChartRead}
 use Rattle.chart_read.specs.Fields.{is_form}
-use Rattle.chart_read.specs.Reading.{SoFar, nothing, with_node, with_link, with_question, with_body, node_late, mixes, link_late, link_after, refusing, body_refusal, refused_at, read_chart_of}
+use Rattle.chart_read.specs.Reading.{ChartRead, SoFar, nothing, with_node, with_link, with_question, with_body, node_late, mixes, link_late, link_after, refusing, body_refusal, refused_at, read_chart_of}
 use Rattle.chart_read.proofs.Laws.{link-number, with-link}
 use Rattle.chart_read.proofs.Walking.{Reaches, reach-start, reach-end}
 use Rattle.chart_refuse.specs.Refusal.{nodes_before, links_before, node_refusal_at, link_refusal_at, chart_values_refusal}

@@ -22,9 +22,8 @@ use Rattle.chart.specs.declared.Chart.{Chart}
 use Rattle.chart.specs.Values.{no_chart, no_node, no_link, node_at, link_at}
 use Rattle.chart.specs.Refusals.{node_refusal, question_refusal}
 use Rattle.chart.proofs.Laws.{node-passed, link-passed, question-passed}
-use Rattle.chart_read.specs.declared.ChartRead.{ChartRead}
 use Rattle.chart_read.specs.Fields.{is_form, plain_length, directed_length, link_length, question_length, tagged, tag_at, body_at, past_field, bytes_from, node_in, link_in}
-use Rattle.chart_read.specs.Reading.{SoFar, nothing, with_node, with_link, with_question, with_body, node_late, mixes, link_late, link_after, refusing, node_body_refusal, link_body_refusal, question_body_refusal, body_refusal, field_refusal, refused_at, at_end, onward, walk, read_chart_of}
+use Rattle.chart_read.specs.Reading.{ChartRead, SoFar, nothing, with_node, with_link, with_question, with_body, node_late, mixes, link_late, link_after, refusing, node_body_refusal, link_body_refusal, question_body_refusal, body_refusal, field_refusal, refused_at, at_end, onward, walk, read_chart_of}
 use Rattle.chart_read.proofs.Laws.{part, link-length-bounds, with-node, with-link, with-question, node-zero, link-zero, question-tag, question-zero, node-bounds, link-bounds, question-bounds, whole, body-zero}
 use Rattle.chart_read.proofs.Fields.{three-on, field-there, bytes-body}
 use Rattle.buffer.proofs.Words.{high-back, low-back}

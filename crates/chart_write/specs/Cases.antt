@@ -1,10 +1,9 @@
 -- S written in either form (document 02, Five): its bytes, the room it asks for, and what is not looked at.
-use Rattle.std.specs.Prelude.{ℕ, ◌≡◌, refl, true, false, List, [], ◌∷◌, ◌++◌, replicate, set}
+use Rattle.std.specs.Prelude.{ℕ, ◌≡◌, refl, true, false, List, [], ◌∷◌, ◌++◌, replicate, set, Ok, Err}
 use Rattle.lists.specs.Chains.{first_refusal_below}
 use Rattle.lists.specs.Places.{any_below, element_at, firsts, row, joined}
 use Rattle.lists.specs.Refusals.{unless_refused}
-use Rattle.buffer.specs.declared.Written.TheVariants.{Wrote, Refused}
-use Rattle.buffer.specs.Writing.{wrote_unless}
+use Rattle.refusal.specs.declared.Refusal.TheVariants.{NoRoom, ChartRange, ChartStranger}
 use Rattle.address.specs.Address.{station_in_range, in_range, same_station, same_address}
 use Rattle.chart.specs.declared.ChartNode.{ChartNode}
 use Rattle.chart.specs.declared.Chart.{Chart}
@@ -13,7 +12,7 @@ use Rattle.chart.specs.Refusals.{node_refusal_by, link_refusal_by, question_refu
 use Rattle.chart.specs.Sample.{station_s, node_s, link_s, S, bytes_s, S', bytes_s'}
 use Rattle.chart_read.specs.Fields.{link_length, tagged}
 use Rattle.chart_refuse.specs.Refusal.{node_refusal_at, link_refusal_at, chart_values_refusal, chart_refusal}
-use Rattle.chart_write.specs.Writing.{longest_chart, node_body, direction_bytes, link_body, question_body, node_field, link_field, question_field, chart_bytes, chart_write_refusal, write_chart_of, chart_after, tidy_node, tidy_at, tidy_form, tidy}
+use Rattle.chart_write.specs.Writing.{longest_chart, node_body, direction_bytes, link_body, question_body, node_field, link_field, question_field, chart_bytes, chart_write_refusal, WriteAnswers, chart_after, tidy_node, tidy_at, tidy_form, tidy}
 
 -- S with a link at an unused place, and a byte past its first label
 abbrev pub strewn : Chart
@@ -32,39 +31,39 @@ formed n form = record { nodes = S.nodes; links = record { count = n; form = for
 pub record Cases : Type 0 where
   pub bytes : chart_bytes S ≡ bytes_s
   pub directed : chart_bytes S' ≡ bytes_s'
-  pub fits : write_chart_of S 124 ≡ Wrote 124
-  pub too_long : write_chart_of S 123 ≡ Refused 10
-  pub refused : write_chart_of no_chart 0 ≡ Refused 28
+  pub fits : WriteAnswers S 124 (Ok 124)
+  pub too_long : WriteAnswers S 123 (Err NoRoom)
+  pub refused : WriteAnswers no_chart 0 (Err ChartStranger)
   pub buffer : chart_after S (replicate 124 7 ++ (8 ∷ [])) ≡ bytes_s ++ (8 ∷ [])
   pub left : chart_after S (7 ∷ 8 ∷ []) ≡ 7 ∷ 8 ∷ []
   -- what is not looked at is neither written nor refused
   pub unlooked : chart_bytes strewn ≡ bytes_s
-  pub unrefused : write_chart_of strewn 124 ≡ Wrote 124
+  pub unrefused : WriteAnswers strewn 124 (Ok 124)
   pub tidied : tidy strewn ≡ S
   -- a form that is none of the two, with links and without
-  pub form_3 : write_chart_of (formed 6 3) 2000 ≡ Refused 24
-  pub form_of_none : write_chart_of (formed 0 3) 2000 ≡ Wrote 52
+  pub form_3 : WriteAnswers (formed 6 3) 2000 (Err ChartRange)
+  pub form_of_none : WriteAnswers (formed 0 3) 2000 (Ok 52)
   pub same_without : chart_bytes (formed 0 3) ≡ chart_bytes (formed 0 2)
   pub tidied_form : (tidy (formed 0 3)).links.form ≡ 2
   -- 16 nodes of 30, 48 links of 13, a question of 9
   pub longest : longest_chart ≡ 1113
 
 pub cases : Cases
-unfolding S bytes_s S' bytes_s' no_chart first_refusal_below any_below element_at firsts row joined unless_refused wrote_unless station_in_range in_range same_station same_address node_at link_at stray_byte node_in_range end_in_range direction_in_range link_in_range stands_at has_node ends_at has_end node_refusal_by link_refusal_by question_refusal_by node_refusal link_refusal question_refusal link_length tagged node_refusal_at link_refusal_at chart_values_refusal chart_refusal node_body direction_bytes link_body question_body node_field link_field question_field chart_bytes chart_write_refusal write_chart_of chart_after tidy_node tidy_at tidy_form tidy
+unfolding S bytes_s S' bytes_s' no_chart first_refusal_below any_below element_at firsts row joined unless_refused station_in_range in_range same_station same_address node_at link_at stray_byte node_in_range end_in_range direction_in_range link_in_range stands_at has_node ends_at has_end node_refusal_by link_refusal_by question_refusal_by node_refusal link_refusal question_refusal link_length tagged node_refusal_at link_refusal_at chart_values_refusal chart_refusal node_body direction_bytes link_body question_body node_field link_field question_field chart_bytes chart_write_refusal chart_after tidy_node tidy_at tidy_form tidy
 cases =
     record {
       bytes = refl;
       directed = refl;
-      fits = refl;
+      fits = (refl, refl);
       too_long = refl;
       refused = refl;
       buffer = refl;
       left = refl;
       unlooked = refl;
-      unrefused = refl;
+      unrefused = (refl, refl);
       tidied = refl;
       form_3 = refl;
-      form_of_none = refl;
+      form_of_none = (refl, refl);
       same_without = refl;
       tidied_form = refl;
       longest = refl;

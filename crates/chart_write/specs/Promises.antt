@@ -1,9 +1,8 @@
 -- Charts are read and written and each undoes the other, in either form (document 01, "The chart"; document 02, Five): what that says of the definitions. proofs/Promises.antt has the theorems.
-use Rattle.std.specs.Prelude.{ℕ, ◌<◌, ◌≤◌, ◌≡◌, List, [], ◌∷◌, ◌++◌, true, false, length, take, drop, replicate}
+use Rattle.std.specs.Prelude.{ℕ, ◌<◌, ◌≤◌, ◌≡◌, List, [], ◌∷◌, ◌++◌, true, false, length, take, drop, replicate, Ok}
 use Rattle.lists.specs.Places.{any_below, row}
 use Rattle.lists.specs.Refusals.{among}
 use Rattle.buffer.specs.Bytes.{Bytes}
-use Rattle.buffer.specs.declared.Written.TheVariants.{Wrote}
 use Rattle.chart.specs.declared.ChartNode.{ChartNode}
 use Rattle.chart.specs.declared.Nodes.{Nodes}
 use Rattle.chart.specs.declared.Links.{Links}
@@ -12,7 +11,7 @@ use Rattle.chart.specs.Values.{most_nodes, most_links, longest_label, plain, bot
 use Rattle.chart_read.specs.Fields.{is_form}
 use Rattle.chart_read.specs.Reading.{read_chart_of}
 use Rattle.chart_refuse.specs.Refusal.{chart_refusal}
-use Rattle.chart_write.specs.Writing.{longest_chart, chart_bytes, chart_write_refusal, write_chart_of, chart_after, tidy}
+use Rattle.chart_write.specs.Writing.{longest_chart, chart_bytes, chart_write_refusal, WriteAnswers, chart_after, tidy}
 
 -- reading undoes writing: the n bytes that were written are read as the chart, with what a writer does not look at at zero
 pub record ChartReadBack (c : Chart) (out : List ℕ) (n : ℕ) : Type 0 where
@@ -20,12 +19,12 @@ pub record ChartReadBack (c : Chart) (out : List ℕ) (n : ℕ) : Type 0 where
   pub short : n ≤ longest_chart
 
 abbrev pub ChartReadUndoesWrite : Type 0
-ChartReadUndoesWrite = (c : Chart) (out : List ℕ) (n : ℕ) → write_chart_of c (length out) ≡ Wrote n → ChartReadBack c out n
+ChartReadUndoesWrite = (c : Chart) (out : List ℕ) (n : ℕ) → WriteAnswers c (length out) (Ok n) → ChartReadBack c out n
 
 -- writing undoes reading: the chart that was read is taken by the writer in any buffer with room, and its bytes are the input
 pub record ChartWrittenBack (bytes : List ℕ) (c : Chart) (out : List ℕ) : Type 0 where
   pub refusal : chart_refusal c ≡ 0
-  pub answer : write_chart_of c (length out) ≡ Wrote (length bytes)
+  pub answer : WriteAnswers c (length out) (Ok (length bytes))
   pub buffer : chart_after c out ≡ bytes ++ drop (length bytes) out
   pub short : length bytes ≤ longest_chart
 

@@ -1,9 +1,10 @@
 -- The chart's writer (document 01, "The chart"; document 02, Five): the bytes of a chart given as values, and what becomes of the buffer that is lent.
-use Rattle.std.specs.Prelude.{ℕ, ◌+◌, ◌*◌, List, [], ◌∷◌, ◌++◌, Bool, cond, length, eqb, ltb}
+use Rattle.std.specs.Prelude.{ℕ, ◌+◌, ◌*◌, List, [], ◌∷◌, ◌++◌, Bool, cond, length, eqb, ltb, Result}
 use Rattle.lists.specs.Places.{element_at, firsts, row, joined}
 use Rattle.lists.specs.Refusals.{refuse, or_else}
-use Rattle.buffer.specs.declared.Written.{Written}
-use Rattle.buffer.specs.Writing.{wrote_unless, lent_after}
+use Rattle.refusal.specs.declared.Refusal.{Refusal}
+use Rattle.refusal.specs.Numbers.{Answers}
+use Rattle.buffer.specs.Writing.{lent_after}
 use Rattle.address.specs.declared.Station.{Station}
 use Rattle.address_bytes.specs.Wide.{station_bytes, address_bytes}
 use Rattle.chart.specs.declared.ChartNode.{ChartNode}
@@ -77,9 +78,9 @@ chart_bytes c =
 unfoldable pub chart_write_refusal : Chart → ℕ → ℕ
 chart_write_refusal c room = or_else (chart_refusal c) (refuse 10 (ltb room (length (chart_bytes c))) 0)
 
--- the number of bytes written, or the refusal
-unfoldable pub write_chart_of : Chart → ℕ → Written
-write_chart_of c room = wrote_unless (chart_write_refusal c room) (length (chart_bytes c))
+-- what the writer answers: the number of bytes written, or the refusal
+abbrev pub WriteAnswers : Chart → ℕ → Result ℕ Refusal → Type 0
+WriteAnswers c room r = Answers r (chart_write_refusal c room) (length (chart_bytes c))
 
 -- what the buffer then holds
 unfoldable pub chart_after : Chart → List ℕ → List ℕ

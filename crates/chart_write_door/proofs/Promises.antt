@@ -1,6 +1,6 @@
 -- The theorems of reading into a chart's image and writing from it. A chart that was read is tidy, so that the image holds all of it.
 use Prim.Native.Nat.{ℕ, ◌≤◌}
-use mathlib.Core.Path.{◌≡◌, sym, ap, ap₂, ◌∙◌}
+use mathlib.Core.Path.{◌≡◌, refl, sym, ap, ap₂, ◌∙◌}
 use mathlib.Core.List.{List, ◌++◌}
 use native.Mathlib.Omega.{arith}
 use lib.Dec.{ltb}
@@ -9,13 +9,11 @@ use lib.Seq.{take-append_seam}
 use borrow.Author.Tests.{le-ltb, ltb-false}
 use Rattle.lists.proofs.Refusals.{pass, or-pass, taken}
 use Rattle.buffer.specs.Bytes.{Bytes}
-use Rattle.buffer.proofs.Writing.{wrote-size, wrote-taken}
 use Rattle.chart.specs.declared.Chart.{Chart}
 use Rattle.chart_refuse.specs.Refusal.{chart_refusal}
 use Rattle.chart_refuse.proofs.Laws.{passed, node_of}
-use Rattle.chart_read.specs.declared.ChartRead.{ChartRead}
-use Rattle.chart_read.specs.Reading.{read_chart_of}
-use Rattle.chart_write.specs.Writing.{chart_bytes, chart_write_refusal, write_chart_of, chart_after, tidy}
+use Rattle.chart_read.specs.Reading.{ChartRead, read_chart_of}
+use Rattle.chart_write.specs.Writing.{chart_bytes, chart_write_refusal, chart_after, tidy}
 use Rattle.chart_write.specs.Promises.{ChartReadBack, ChartWrittenBack}
 use Rattle.chart_write.proofs.Promises.{read_undoes_write as chart-read-undoes, write_undoes_read as chart-write-undoes}
 use Rattle.chart_image.specs.Image.{chart_image_size, chart_image, chart_in}
@@ -86,8 +84,7 @@ module _ (bytes b out : List ℕ) (small : Bytes bytes) (z : pz_chart_read_refus
 
   -- the writer takes it, and writes as many bytes as were read
   taken-there : (chart_write_refusal c (length out) ≡ 0) × (length bytes ≡ length (chart_bytes c))
-  unfolding write_chart_of
-  taken-there = wrote-size (length bytes) (chart_write_refusal c (length out)) (length (chart_bytes c)) again.answer
+  taken-there = again.answer
 
   refusal-none : pz_chart_write_refusal image (length out) ≡ 0
   refusal-none = refusal-from image long (length out) ∙ ap (λ (x : Chart). chart_write_refusal x (length out)) chart-is ∙ taken-there.0
@@ -130,8 +127,7 @@ module _ (b out d : List ℕ) (z : pz_chart_write_refusal b (length out) ≡ 0) 
   e-accepted = (or-pass (chart_refusal e) _ e-taken).0
 
   back : ChartReadBack e out (length (chart_bytes e))
-  unfolding write_chart_of
-  back = chart-read-undoes e out (length (chart_bytes e)) (sym (wrote-taken _ e-taken))
+  back = chart-read-undoes e out (length (chart_bytes e)) (e-taken, refl)
 
   bytes-is : bytes ≡ take (length (chart_bytes e)) (chart_after e out)
   unfolding bytes pz_chart_write_count e

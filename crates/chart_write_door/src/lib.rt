@@ -4,8 +4,8 @@
 ghost use Rattle.std.specs.Prelude.{◌≡◌, length};
 ghost use Rattle.chart_write_door.specs.Calls.{pz_chart_write_refusal, pz_chart_write_count, pz_chart_write_chart};
 
-use buffer::Written;
 use chart_image::CHART_IMAGE_SIZE;
+use refusal::Refusal;
 
 // Writes the chart in an image; `written` is how many bytes.
 pub fn pz_chart_write(image: &[u8], chart: &mut [u8], written: &mut u16) -> u8
@@ -13,14 +13,14 @@ pub fn pz_chart_write(image: &[u8], chart: &mut [u8], written: &mut u16) -> u8
 {
     *written = 0;
     if image.len() < CHART_IMAGE_SIZE {
-        return 10;
+        return Refusal::NoRoom.number();
     }
     let c = chart_image::chart_in(image);
     match chart_write::write_chart(c, chart) {
-        Written::Refused(refusal) => refusal,
-        Written::Wrote(n) => {
+        Ok(n) => {
             *written = n as u16;
             0
         }
+        Err(refusal) => refusal.number(),
     }
 }

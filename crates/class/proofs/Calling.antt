@@ -2,6 +2,10 @@
 use Prim.Native.Nat.{ℕ}
 use mathlib.Core.Path.{◌≡◌, sym, ap, ap₂, subst, ◌∙◌}
 use mathlib.Core.List.{List}
+use Rattle.std.specs.Prelude.{Result, Ok, Err}
+use Rattle.refusal.specs.declared.Fault.{Fault}
+use Rattle.refusal.specs.Numbers.{AnswersAt}
+use Rattle.refusal.proofs.Laws.{names}
 use Rattle.lists.specs.Refusals.{or_else, unless_refused}
 use Rattle.lists.proofs.Refusals.{or-refused, taken, refused}
 use Rattle.buffer.specs.Bytes.{Bytes}
@@ -10,17 +14,14 @@ use Rattle.address.specs.declared.Station.{Station}
 use Rattle.address.specs.declared.Address.{Address}
 use Rattle.chart.specs.declared.Chart.{Chart}
 use Rattle.chart_refuse.specs.Promises.{Accepted}
-use Rattle.chart_read.specs.declared.ChartRead.{ChartRead}
-use Rattle.chart_read.specs.Reading.{read_chart_of}
+use Rattle.chart_read.specs.Reading.{ChartRead, read_chart_of}
 use Rattle.chart_read.proofs.Walking.{read-place}
 use Rattle.chart_net.specs.Net.{station_place}
 use Rattle.chart_net.specs.Private.{station_place_for}
 use Rattle.chart_net.proofs.Places.{place-few}
 use Rattle.class.specs.declared.Message.{Message}
-use Rattle.class.specs.declared.Sent.{Sent}
-use Rattle.class.specs.declared.Passed.{Passed}
 use Rattle.class.specs.Class.{begun_at, step_on, class_refusal}
-use Rattle.class.specs.Calls.{tables_in}
+use Rattle.class.specs.Calls.{Sent, Passed, tables_in}
 use Rattle.class.specs.Private.{Going, passed_from}
 use Rattle.class.proofs.Held.{long_of}
 use Rattle.class.proofs.Refusals.{not-refused, read-accepted}
@@ -109,3 +110,19 @@ stepped_on tables d m r = record { refusal = 0; place = 0; message = step_on r.c
 
 abbrev pub passed_on : List ℕ → Address → Station → ChartRead → Passed
 passed_on tables d s r = passed_from r.chart (tables_in tables) d (station_place r.chart.nodes s)
+
+-- ---- what the reader gives
+
+abbrev pub Reads : List ℕ → Result Chart Fault → Type 0
+Reads bytes x = AnswersAt x (read_chart_of bytes).refusal (read_chart_of bytes).place (read_chart_of bytes).chart
+
+-- a chart that was read, as it was defined
+abbrev pub got : Chart → ChartRead
+got c = record { refusal = 0; place = 0; chart = c }
+
+pub given : (bytes : List ℕ) (c : Chart) → Reads bytes (Ok c) → got c ≡ read_chart_of bytes
+given bytes c h = λ i. record { refusal = sym h.0 i; place = sym h.1.0 i; chart = h.1.1 i }
+
+-- what refuses the chart is no 0
+pub bad : (bytes : List ℕ) (f : Fault) → Reads bytes (Err f) → (read_chart_of bytes).refusal ≡ 0 → ⊥
+bad bytes f h z = names.none_zero f.refusal (h.0 ∙ z)

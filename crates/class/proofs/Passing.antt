@@ -18,7 +18,7 @@ use Rattle.table.specs.declared.Table.{Table}
 use Rattle.chart.specs.declared.Chart.{Chart}
 use Rattle.chart_refuse.specs.Promises.{Accepted}
 use Rattle.class.specs.declared.Message.{Message}
-use Rattle.class.specs.declared.Passed.{Passed}
+use Rattle.class.specs.Calls.{Passed}
 use Rattle.class.specs.Class.{begun_at, ended_with, step_on, steps_on, new_place, places_on, way_from, ending_from}
 use Rattle.class.specs.Private.{passed_from}
 use Rattle.class.proofs.Ports.{comes-in}

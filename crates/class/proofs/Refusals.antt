@@ -26,9 +26,8 @@ use Rattle.chart_read.specs.Reading.{read_chart_of}
 use Rattle.chart_write.proofs.Promises.{write_undoes_read}
 use Rattle.chart_net.specs.Net.{station_place}
 use Rattle.class.specs.declared.Message.{Message}
-use Rattle.class.specs.declared.Sent.{Sent}
 use Rattle.class.specs.Class.{Arrival, begun_at, ended_with, step_on, steps_on, stray_table, strange_table, class_refusal}
-use Rattle.class.specs.Calls.{chart_of, tables_in, send_refusal, step_refusal, begin_of, step_of}
+use Rattle.class.specs.Calls.{Sent, chart_of, tables_in, send_refusal, step_refusal, begin_of, step_of}
 use Rattle.class.specs.Promises.{sent_after}
 use Rattle.class.proofs.Ports.{comes-in}
 use Rattle.class.proofs.Steps.{Came, Stepped, halted, again, further, stepped, step-ended}

@@ -15,8 +15,7 @@ use Rattle.lists.proofs.Bools.{or-none}
 use Rattle.address.specs.declared.Port.{Port}
 use Rattle.address.specs.declared.Address.{Address}
 use Rattle.table.specs.declared.Table.{Table}
-use Rattle.table.specs.declared.Choice.{Choice}
-use Rattle.table.specs.declared.Choice.TheVariants.{Local, Out, Refused}
+use Rattle.table.specs.Choice.{Choice, Local, Out, Refused}
 use Rattle.table.specs.Table.{choose_of}
 use Rattle.chart.specs.declared.Chart.{Chart}
 use Rattle.chart_refuse.specs.Promises.{Accepted}

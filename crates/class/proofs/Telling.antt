@@ -22,10 +22,8 @@ use Rattle.chart_read.proofs.Walking.{read-place}
 use Rattle.chart_write.proofs.Promises.{place-near}
 use Rattle.chart_net.specs.Net.{station_place}
 use Rattle.class.specs.declared.Message.{Message}
-use Rattle.class.specs.declared.Sent.{Sent}
-use Rattle.class.specs.declared.Passed.{Passed}
 use Rattle.class.specs.Class.{begun_at, step_on, new_place, places_on, way_from, ending_from}
-use Rattle.class.specs.Calls.{longest_way, chart_of, tables_in, send_refusal, step_refusal, begin_of, step_of, way_of, pass_of}
+use Rattle.class.specs.Calls.{Sent, Passed, longest_way, chart_of, tables_in, send_refusal, step_refusal, begin_of, step_of, way_of, pass_of}
 use Rattle.class.specs.Private.{passed_from}
 use Rattle.class.proofs.Calling.{read_right}
 

@@ -10,8 +10,7 @@ use Rattle.chart.specs.declared.Chart.{Chart}
 use Rattle.chart_read.specs.Reading.{read_chart_of}
 use Rattle.chart_net.specs.Net.{station_place}
 use Rattle.class.specs.declared.Message.{Message}
-use Rattle.class.specs.declared.Sent.{Sent}
-use Rattle.class.specs.declared.Passed.{Passed}
+use Rattle.class.specs.declared.Passed as code
 use Rattle.class.specs.Class.{begun_at, step_on, way_from, ending_from, class_refusal}
 
 -- 16 tables of 196 bytes
@@ -25,6 +24,24 @@ tables_in b a = cond (ltb (length b) tables_size) broken_table (table_of (drop (
 -- the way has at most 16 nodes, and one that is met again
 abbrev pub longest_way : ℕ
 longest_way = 17
+
+-- a message, or the number of a refusal and where the chart's refused field begins
+pub record Sent : Type 0 where
+  pub refusal : ℕ
+  pub place : ℕ
+  pub message : Message
+
+-- the node places that a message came to, in order, and how it ended; or a refusal
+pub record Passed : Type 0 where
+  pub refusal : ℕ
+  pub place : ℕ
+  pub ending : ℕ
+  pub count : ℕ
+  pub way : List ℕ
+
+-- what is answered where nothing is refused
+abbrev pub passing : Passed → code.Passed
+passing p = record { ending = p.ending; count = p.count; way = p.way }
 
 -- what stands beside a refusal: every number 0
 abbrev pub no_message : Message

@@ -15,9 +15,8 @@ use Rattle.chart.specs.declared.Chart.{Chart}
 use Rattle.chart.specs.Values.{out_only, back_only, link_at}
 use Rattle.chart_refuse.specs.Promises.{Accepted}
 use Rattle.class.specs.declared.links.Coming.{Coming}
-use Rattle.class.specs.declared.Passed.{Passed}
 use Rattle.class.specs.Class.{Arrival, way_from, ending_from}
-use Rattle.class.specs.Calls.{tables_size, longest_way}
+use Rattle.class.specs.Calls.{tables_size, longest_way, Passed}
 
 -- a link that is on is passed from its first end, which is at this station and has this port; from its second
 unfoldable pub leaves_first : Link → Station → Port → Bool

@@ -7,7 +7,7 @@ use Rattle.address.specs.declared.Address.{Address}
 use Rattle.address.specs.Address.{station_of}
 use Rattle.buffer.specs.Bytes.{Bytes}
 use Rattle.table.specs.declared.Table.{Table}
-use Rattle.table.specs.declared.Choice.TheVariants.{Out}
+use Rattle.table.specs.Choice.{Out}
 use Rattle.table.specs.Table.{choose_of}
 use Rattle.chart.specs.declared.Chart.{Chart}
 use Rattle.chart.specs.Values.{node_at, link_at}
@@ -17,9 +17,8 @@ use Rattle.route.specs.Route.{Net, RouteFrom}
 use Rattle.route_fewest.specs.Promises.{Fewest}
 use Rattle.table_write.specs.Writing.{near_end, table_for}
 use Rattle.class.specs.declared.Message.{Message}
-use Rattle.class.specs.declared.Sent.{Sent}
 use Rattle.class.specs.Class.{under_way, delivered, met_before, away_end, begun_at, step_on, steps_on, way_from, ending_from, class_refusal}
-use Rattle.class.specs.Calls.{chart_of, tables_in, send_refusal, begin_of, step_of}
+use Rattle.class.specs.Calls.{Sent, chart_of, tables_in, send_refusal, begin_of, step_of}
 
 -- the chart is accepted, and so is the message for the destination from a station
 pub record Taken (c : Chart) (ts : ℕ → Table) (d : Address) (s : Station) : Type 0 where

@@ -4,13 +4,16 @@
 
 ghost use Rattle.std.specs.Prelude.{◌≡◌, ◌<◌};
 ghost use Rattle.chart.specs.Values.{most_nodes};
+ghost use Rattle.refusal.specs.Numbers.{AnswersAt};
 ghost use Rattle.class.specs.Class.{begun_at, ended_with, came_to, step_on};
-ghost use Rattle.class.specs.Calls.{tables_in, no_message, no_way, begin_of, step_of, pass_of};
+ghost use Rattle.class.specs.Calls.{tables_in, passing, begin_of, step_of, pass_of};
 ghost use Rattle.class.specs.Private.{Going, passed_from};
 
 use address::{Address, Port, Station};
 use chart::Chart;
+use chart_read::read_chart;
 use links::out_by;
+use refusal::Fault;
 use table::Choice;
 use tables::choice_of;
 use tests::class_refusal;
@@ -42,19 +45,9 @@ pub struct Message {
     pub ending: u8,
 }
 
-// A message, or the number of a refusal and where the chart's refused field begins.
-#[derive(Clone, Copy)]
-pub struct Sent {
-    pub refusal: u8,
-    pub place: usize,
-    pub message: Message,
-}
-
-// The node places that a message came to, in order, and how it ended; or a refusal.
+// The node places that a message came to, in order, and how it ended.
 #[derive(Clone, Copy)]
 pub struct Passed {
-    pub refusal: u8,
-    pub place: usize,
     pub ending: u8,
     pub count: usize,
     pub way: [u8; 17],
@@ -111,85 +104,42 @@ fn step_on(c: Chart, tables: &[u8], d: Address, m: Message) -> Message
         return m;
     }
     match choice_of(tables, m.at as usize, d, m.arrival) {
-        Choice::Local(_) => ended(m, DELIVERED),
-        Choice::Refused(_) => ended(m, WITHOUT_ROUTE),
-        Choice::Out(p) => match out_by(c, m.at as usize, p) {
+        Ok(Choice::Local(_)) => ended(m, DELIVERED),
+        Err(_) => ended(m, WITHOUT_ROUTE),
+        Ok(Choice::Out(p)) => match out_by(c, m.at as usize, p) {
             Some(x) => came_to(m, x.node, x.port),
             None => ended(m, WITHOUT_LINK),
         },
     }
 }
 
-// What stands beside a refusal: every number 0.
-fn no_message(refusal: u8, place: usize) -> Sent
-    ensures { result ≡ record { refusal = refusal; place = place; message = no_message } }
-{
-    Sent {
-        refusal,
-        place,
-        message: Message {
-            at: 0,
-            arrival: Port(0),
-            met: 0,
-            ending: 0,
-        },
-    }
-}
-
 // A message for the destination begins at a station.
-pub fn begin(chart: &[u8], tables: &[u8], s: Station, d: Address) -> Sent
-    ensures { result ≡ begin_of chart.now tables.now d s }
+pub fn begin(chart: &[u8], tables: &[u8], s: Station, d: Address) -> Result<Message, Fault>
+    ensures { AnswersAt result (begin_of chart.now tables.now d s).refusal (begin_of chart.now tables.now d s).place (begin_of chart.now tables.now d s).message }
 {
-    let read = chart_read::read_chart(chart);
-    if read.refusal != 0 {
-        return no_message(read.refusal, read.place);
+    let c = read_chart(chart)?;
+    let at = chart_net::place_of(c.nodes, s);
+    if let Err(refusal) = class_refusal(c.nodes, tables, at, d, Port(0)) {
+        return Err(Fault { refusal, place: 0 });
     }
-    let nodes = read.chart.nodes;
-    let at = chart_net::place_of(nodes, s);
-    let refusal = class_refusal(nodes, tables, at, d, Port(0));
-    if refusal != 0 {
-        return no_message(refusal, 0);
-    }
-    Sent {
-        refusal: 0,
-        place: 0,
-        message: begun(at),
-    }
+    Ok(begun(at))
 }
 
-// A message for the destination, a step on; beside a refusal as it was.
-pub fn step(chart: &[u8], tables: &[u8], d: Address, m: Message) -> Sent
-    ensures { result ≡ step_of chart.now tables.now d m }
+// A message for the destination, a step on.
+pub fn step(chart: &[u8], tables: &[u8], d: Address, m: Message) -> Result<Message, Fault>
+    ensures { AnswersAt result (step_of chart.now tables.now d m).refusal (step_of chart.now tables.now d m).place (step_of chart.now tables.now d m).message }
 {
-    let read = chart_read::read_chart(chart);
-    if read.refusal != 0 {
-        return Sent {
-            refusal: read.refusal,
-            place: read.place,
-            message: m,
-        };
+    let c = read_chart(chart)?;
+    if let Err(refusal) = class_refusal(c.nodes, tables, m.at, d, m.arrival) {
+        return Err(Fault { refusal, place: 0 });
     }
-    let c = read.chart;
-    let refusal = class_refusal(c.nodes, tables, m.at, d, m.arrival);
-    if refusal != 0 {
-        return Sent {
-            refusal,
-            place: 0,
-            message: m,
-        };
-    }
-    let message = step_on(c, tables, d, m);
-    Sent {
-        refusal: 0,
-        place: 0,
-        message,
-    }
+    Ok(step_on(c, tables, d, m))
 }
 
 // All steps of a message at a node place, until it ends: as many as there are nodes are enough.
 fn run(c: Chart, tables: &[u8], d: Address, at: u8) -> Passed
     requires { Going c tables.now at }
-    ensures { result ≡ passed_from c (tables_in tables.now) d at }
+    ensures { result ≡ passing (passed_from c (tables_in tables.now) d at) }
 {
     let mut m = begun(at);
     let mut way = [0u8; 17];
@@ -205,40 +155,20 @@ fn run(c: Chart, tables: &[u8], d: Address, at: u8) -> Passed
         left -= 1;
     }
     Passed {
-        refusal: 0,
-        place: 0,
         ending: m.ending,
         count,
         way,
     }
 }
 
-// What stands beside a refusal of a way: no node.
-fn no_way(refusal: u8, place: usize) -> Passed
-    ensures { result ≡ no_way refusal place }
-{
-    Passed {
-        refusal,
-        place,
-        ending: 0,
-        count: 0,
-        way: [0u8; 17],
-    }
-}
-
 // A message for the destination begins at a station and goes on until it ends.
-pub fn pass(chart: &[u8], tables: &[u8], s: Station, d: Address) -> Passed
-    ensures { result ≡ pass_of chart.now tables.now d s }
+pub fn pass(chart: &[u8], tables: &[u8], s: Station, d: Address) -> Result<Passed, Fault>
+    ensures { AnswersAt result (pass_of chart.now tables.now d s).refusal (pass_of chart.now tables.now d s).place (passing (pass_of chart.now tables.now d s)) }
 {
-    let read = chart_read::read_chart(chart);
-    if read.refusal != 0 {
-        return no_way(read.refusal, read.place);
-    }
-    let c = read.chart;
+    let c = read_chart(chart)?;
     let at = chart_net::place_of(c.nodes, s);
-    let refusal = class_refusal(c.nodes, tables, at, d, Port(0));
-    if refusal != 0 {
-        return no_way(refusal, 0);
+    if let Err(refusal) = class_refusal(c.nodes, tables, at, d, Port(0)) {
+        return Err(Fault { refusal, place: 0 });
     }
-    run(c, tables, d, at)
+    Ok(run(c, tables, d, at))
 }

@@ -1,20 +1,22 @@
 // The 16 tables of a class as one image, 196 bytes each.
 ghost use Rattle.std.specs.Prelude.{◌≡◌, true, ◌<◌, ◌≤◌, length};
 ghost use Rattle.table.specs.Table.{own_station, table_in_range, choose_of};
+ghost use Rattle.table.specs.Choice.{choice_in};
 ghost use Rattle.chart.specs.Values.{most_nodes};
 ghost use Rattle.class.specs.Calls.{tables_size, tables_in};
 
 use address::{Address, Node, Port, Station};
+use refusal::Refusal;
 use table::Choice;
 use table_image::TABLE_SIZE;
 
 pub const TABLES_SIZE: usize = 3136;
 
-// What the node at a place chooses.
-pub fn choice_of(tables: &[u8], at: usize, d: Address, arrival: Port) -> Choice
+// What the node at a place chooses, or what refuses it.
+pub fn choice_of(tables: &[u8], at: usize, d: Address, arrival: Port) -> Result<Choice, Refusal>
     requires whole { tables_size ≤ length tables.now }
     requires within { at < most_nodes }
-    ensures { result ≡ choose_of (tables_in tables.now at) d arrival }
+    ensures { choice_in result ≡ choose_of (tables_in tables.now at) d arrival }
 {
     table_image::choose_in(&tables[TABLE_SIZE * at..], d, arrival)
 }

@@ -1,6 +1,7 @@
 // The refusals of a class, of a chart that was read: 50, 44, 95 and 51.
 ghost use Rattle.std.specs.Prelude.{◌≡◌, false, ◌≤◌};
 ghost use Rattle.lists.specs.Places.{any_below};
+ghost use Rattle.refusal.specs.Numbers.{number_in};
 ghost use Rattle.chart.specs.Values.{most_nodes};
 ghost use Rattle.class.specs.Class.{stray_table, strange_table, class_refusal};
 ghost use Rattle.class.specs.Calls.{tables_in};
@@ -8,6 +9,7 @@ ghost use Rattle.class.specs.Calls.{tables_in};
 use crate::tables::{TABLES_SIZE, own_held};
 use address::{Address, LARGEST_PORT, Port};
 use chart::Nodes;
+use refusal::Refusal;
 use table_image::TABLE_SIZE;
 
 // Whether one of the first n tables is out of range.
@@ -41,22 +43,28 @@ fn any_strange(nodes: Nodes, tables: &[u8]) -> bool
     false
 }
 
-// The number for a message at a place.
-pub fn class_refusal(nodes: Nodes, tables: &[u8], at: u8, d: Address, arrival: Port) -> u8
+// What refuses a message at a place.
+pub fn class_refusal(
+    nodes: Nodes,
+    tables: &[u8],
+    at: u8,
+    d: Address,
+    arrival: Port,
+) -> Result<(), Refusal>
     requires { nodes.count ≤ most_nodes }
-    ensures { result ≡ class_refusal nodes (tables_in tables.now) d at arrival }
+    ensures { number_in result ≡ class_refusal nodes (tables_in tables.now) d at arrival }
 {
     if any_stray(tables, nodes.count as usize) {
-        return 50;
+        return Err(Refusal::BadTable);
     }
     if nodes.count <= at {
-        return 44;
+        return Err(Refusal::NoNode);
     }
     if any_strange(nodes, tables) {
-        return 95;
+        return Err(Refusal::BadOwnAddress);
     }
     if !(address::in_range(d) & (arrival.0 <= LARGEST_PORT)) {
-        return 51;
+        return Err(Refusal::BadDestination);
     }
-    0
+    Ok(())
 }

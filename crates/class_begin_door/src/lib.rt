@@ -31,14 +31,18 @@ pub fn pz_begin(
         node: Node(to_node),
         port: Port(to_port),
     };
-    let sent = class::begin(chart, tables, s, d);
-    *place = sent.place as u16;
-    if sent.refusal != 0 {
-        return sent.refusal;
+    *place = 0;
+    match class::begin(chart, tables, s, d) {
+        Err(fault) => {
+            *place = fault.place as u16;
+            fault.refusal.number()
+        }
+        Ok(m) => {
+            if message.len() < MESSAGE_SIZE {
+                return 10;
+            }
+            class_image::put_message(message, m);
+            0
+        }
     }
-    if message.len() < MESSAGE_SIZE {
-        return 10;
-    }
-    class_image::put_message(message, sent.message);
-    0
 }

@@ -27,6 +27,7 @@ pub fn pz_pass(
 {
     *places = 0;
     *ending = 0;
+    *place = 0;
     let s = Station {
         brigade,
         node: Node(node),
@@ -36,16 +37,19 @@ pub fn pz_pass(
         node: Node(to_node),
         port: Port(to_port),
     };
-    let p = class::pass(chart, tables, s, d);
-    *place = p.place as u16;
-    if p.refusal != 0 {
-        return p.refusal;
+    match class::pass(chart, tables, s, d) {
+        Err(fault) => {
+            *place = fault.place as u16;
+            fault.refusal.number()
+        }
+        Ok(p) => {
+            if way.len() < LONGEST_WAY {
+                return 10;
+            }
+            buffer::put_all(way, 0, &p.way[..p.count]);
+            *places = p.count as u8;
+            *ending = p.ending;
+            0
+        }
     }
-    if way.len() < LONGEST_WAY {
-        return 10;
-    }
-    buffer::put_all(way, 0, &p.way[..p.count]);
-    *places = p.count as u8;
-    *ending = p.ending;
-    0
 }

@@ -26,14 +26,18 @@ pub fn pz_step(
         port: Port(to_port),
     };
     let m = class_image::message_in(message);
-    let sent = class::step(chart, tables, d, m);
-    *place = sent.place as u16;
-    if sent.refusal != 0 {
-        return sent.refusal;
+    *place = 0;
+    match class::step(chart, tables, d, m) {
+        Err(fault) => {
+            *place = fault.place as u16;
+            fault.refusal.number()
+        }
+        Ok(next) => {
+            if message.len() < MESSAGE_SIZE {
+                return 10;
+            }
+            class_image::put_message(message, next);
+            0
+        }
     }
-    if message.len() < MESSAGE_SIZE {
-        return 10;
-    }
-    class_image::put_message(message, sent.message);
-    0
 }

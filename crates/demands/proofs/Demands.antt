@@ -17,8 +17,8 @@ use Rattle.envelope_write.proofs.Promises.{read_undoes_write, write_undoes_read}
 use Rattle.envelope_door.specs.Calls.{pz_read_image, pz_write_count, pz_write_frame}
 use Rattle.envelope_door.proofs.Numbers.{pz-read-numbers, pz-write-numbers}
 use Rattle.envelope_door.proofs.Promises as door
-use Rattle.table.specs.declared.Choice.{Choice}
-use Rattle.table.specs.declared.Choice.TheVariants.{Local, Out, Refused}
+use Rattle.table.specs.Choice.{Choice}
+use Rattle.table.specs.Choice.{Local, Out, Refused}
 use Rattle.table.specs.Table.{call_in_range, choice_refusal, choice_local, choice_port}
 use Rattle.table.proofs.Promises.{next_route, every-choice, choose-numbers}
 use Rattle.table_image.specs.Table.{table_of}

@@ -1,27 +1,25 @@
 -- Laws of the definitions of specs/: the check character byte by byte, ranges, and what an accepted frame is.
 use Prim.Native.Nat.{ℕ, zero, suc, ◌+◌, ◌*◌, ◌/◌, ◌-◌, ◌<◌, ◌≤◌}
 use mathlib.Core.Path.{◌≡◌, refl, sym, ap, ◌∙◌}
-use mathlib.Core.List.{List, [], ◌∷◌, ◌++◌}
+use mathlib.Core.List.{List, [], ◌∷◌}
 use mathlib.Core.Bool.{Bool, true, false, not, cond}
 use native.Mathlib.Omega.{arith}
-use native.Mathlib.Numerals.{add-one}
 use lib.Bits.{bit_xor}
 use Rattle.std.specs.List.{fold}
 use lib.ListN.{length, get_or, take, drop, length-drop, drop_of_length-le}
-use lib.Seq.{take-suc, take_all, drop-cons, get_or-drop}
+use lib.Seq.{take_all, drop-cons, get_or-drop}
 use lib.Dec.{eqb, ltb}
 use borrow.Author.Tests.{lt-ltb, le-ltb, ltb-false, eqb-true, eqb-false, not-false}
 use Rattle.buffer.specs.Bytes.{Bytes, word_at}
 use Rattle.lists.specs.Places.{any_below, first_below, repeat_at, repeats, element_at, row}
 use Rattle.lists.proofs.Bools.{or-neither-of}
-use Rattle.lists.proofs.Places.{any-agree, any-never, any_false, repeats-agree, first-repeat-agree, Agree, row_at}
+use Rattle.lists.proofs.Places.{first-most, any-agree, any-never, any_false, repeats-agree, first-repeat-agree, Agree, row_at}
 use Rattle.lists.proofs.Refusals.{pass, or-pass}
 use Rattle.address.specs.declared.Address.{Address}
 use Rattle.address.specs.Address.{in_range, same_address}
 use Rattle.address_bytes.specs.Packed.{address_key}
 use Rattle.address_bytes.proofs.PackedLaws.{unpack-ranged, key-same}
 use Rattle.envelope.specs.declared.Fixed.{Fixed}
-use Rattle.envelope.specs.declared.Judged.{Judged}
 use Rattle.envelope.specs.Frame.{destinations_offset, length_of, count_of, size_of, fields_of, destination_at, xor_from, check_of}
 use Rattle.envelope.specs.Refusal.{page_officer, version_for, outside, stray_at, out_of_range, wrong_version, whole_refusal, values_refusal_by, values_refusal, frame_refusal}
 use Rattle.envelope.specs.Place.{first_twin, place_beside, frame_place}
@@ -173,14 +171,23 @@ module _ (e : Fixed) (n : ℕ) (stray equal : Bool) where
 
 -- what is judged by keys: beside any number but 8 there is no twin
 module _ (e : Fixed) (n : ℕ) (stray : Bool) (keys : ℕ → ℕ) where
-  pub judged-plain : {k : ℕ} {r : Judged} → r ≡ record { refusal = k; twin = 0 } → eqb k 8 ≡ false → k ≡ values_refusal_by e n stray (repeats eqb keys e.count) → r ≡ judged_by e n stray keys
+  pub judged-plain : {k : ℕ} → eqb k 8 ≡ false → k ≡ values_refusal_by e n stray (repeats eqb keys e.count) → (k ≡ (judged_by e n stray keys).refusal) × (0 ≡ (judged_by e n stray keys).twin)
   unfolding judged_by
-  judged-plain h q p = h ∙ rw (← p, q)
+  judged-plain q p = (p, rw (← p, q))
 
   pub judged-8 : {i : ℕ} → i ≡ first_below (repeat_at eqb keys) e.count → 8 ≡ values_refusal_by e n stray (repeats eqb keys e.count)
-      → ◌≡◌ {A = Judged} (record { refusal = 8; twin = i }) (judged_by e n stray keys)
+      → (8 ≡ (judged_by e n stray keys).refusal) × (i ≡ (judged_by e n stray keys).twin)
   unfolding judged_by
-  judged-8 h p = rw (← p, h)
+  judged-8 h p = (p, rw (← p, h))
+
+  -- and it is no place past the destinations
+  pub twin-le : (judged_by e n stray keys).twin ≤ e.count
+  unfolding judged_by
+  twin-le = go (eqb (values_refusal_by e n stray (repeats eqb keys e.count)) 8)
+    where
+      go : (b : Bool) → cond b (first_below (repeat_at eqb keys) e.count) 0 ≤ e.count
+      go true = first-most (repeat_at eqb keys) e.count
+      go false = omega arith
 
 -- an accepted frame
 pub record Accepted (f : List ℕ) : Type 0 where

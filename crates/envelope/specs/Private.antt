@@ -4,11 +4,15 @@ use Rattle.lists.specs.Places.{first_below, repeat_at, repeats}
 use Rattle.address.specs.declared.Address.{Address}
 use Rattle.address_bytes.specs.Packed.{address_key}
 use Rattle.envelope.specs.declared.Fixed.{Fixed}
-use Rattle.envelope.specs.declared.Judged.{Judged}
 use Rattle.envelope.specs.Refusal.{values_refusal_by}
 
 unfoldable pub key_at : (ℕ → Address) → ℕ → ℕ
 key_at d i = address_key (d i)
+
+-- a number, and beside 8 a destination's place
+pub record Judged : Type 0 where
+  pub refusal : ℕ
+  pub twin : ℕ
 
 -- the number of the values by the destinations' keys; beside 8 the first destination whose key is that of an earlier one
 unfoldable pub judged_by : Fixed → ℕ → Bool → (ℕ → ℕ) → Judged

@@ -18,13 +18,6 @@ pub const CONTENTS_OFFSET: usize = 9;
 // The size of a frame without destinations and contents.
 pub const SMALLEST_FRAME: usize = 10;
 
-// The number that refuses an envelope's values, or 0; beside 8 the place of the first destination that equals an earlier one.
-#[derive(Clone, Copy)]
-pub struct Judged {
-    pub refusal: u8,
-    pub twin: u8,
-}
-
 // The fixed fields of an envelope. The destinations and the contents stay in the frame.
 #[derive(Clone, Copy)]
 pub struct Fixed {

@@ -3,9 +3,11 @@ ghost use Rattle.std.specs.Prelude.{◌≡◌};
 ghost use Rattle.lists.specs.Places.{element_at};
 ghost use Rattle.envelope.specs.Refusal.{outside, wrong_version};
 ghost use Rattle.envelope.specs.Private.{judged_by};
+ghost use Rattle.refusal.specs.Numbers.{AnswersAt};
 
+use crate::Fixed;
 use crate::keys::first_seen;
-use crate::{Fixed, Judged};
+use refusal::{Fault, Refusal};
 
 pub const MOST_DESTINATIONS: u8 = 63;
 
@@ -33,35 +35,29 @@ fn wrong_version(version: u8, kind: u8) -> bool
     }
 }
 
-// A refusal of values that needs no place among the destinations, or 0.
-fn only(refusal: u8) -> Judged
-    ensures { result ≡ record { refusal = refusal; twin = 0 } }
-{
-    Judged { refusal, twin: 0 }
-}
-
-// Refusals 4 to 9 of the fields, n bytes of contents and the destinations' keys, or 0; stray says whether anything is out of range.
-pub fn judged_by(e: Fixed, n: usize, stray: bool, keys: &[u32; 63]) -> Judged
-    ensures { result ≡ judged_by e n stray (element_at 0 keys.now) }
+// Refusals 4 to 9 of the fields, n bytes of contents and the destinations' keys; stray says whether anything is out of range. The place
+// beside 8 is that of the first destination that equals an earlier one, else 0.
+pub fn judged_by(e: Fixed, n: usize, stray: bool, keys: &[u32; 63]) -> Result<(), Fault>
+    ensures { AnswersAt result (judged_by e n stray (element_at 0 keys.now)).refusal (judged_by e n stray (element_at 0 keys.now)).twin tt }
 {
     if is_outside(MOST_DESTINATIONS, e.count) {
-        return only(4);
+        return Err(Refusal::FrameCount.at(0));
     }
     if LONGEST_CONTENTS < n {
-        return only(5);
+        return Err(Refusal::FrameContents.at(0));
     }
     if stray {
-        return only(6);
+        return Err(Refusal::FrameRange.at(0));
     }
     if is_outside(LOWEST_PRIORITY, e.priority) {
-        return only(7);
+        return Err(Refusal::FramePriority.at(0));
     }
     let twin = first_seen(keys, e.count);
     if twin < e.count {
-        return Judged { refusal: 8, twin };
+        return Err(Refusal::FrameRepeated.at(twin as usize));
     }
     if wrong_version(e.version, e.kind) {
-        return only(9);
+        return Err(Refusal::FrameVersion.at(0));
     }
-    only(0)
+    Ok(())
 }

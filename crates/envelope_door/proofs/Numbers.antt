@@ -1,11 +1,9 @@
 -- Which numbers the two calls give: those of the reader or the writer, and 10 for an image that is too short.
-use Prim.Native.Nat.{ℕ}
 use mathlib.Core.Path.{refl}
-use mathlib.Core.List.{List, [], ◌∷◌}
+use mathlib.Core.List.{[], ◌∷◌}
 use lib.Dec.{ltb}
 use lib.ListN.{length, get_or}
-use Rattle.buffer.specs.Bytes.{Bytes}
-use Rattle.lists.proofs.Given.{Given, tested, chosen, either, among-more}
+use Rattle.lists.proofs.Given.{tested, chosen, either, among-more}
 use Rattle.envelope.specs.Refusal.{outside, frame_refusal}
 use Rattle.envelope_read.specs.Promises.{reader_refusals}
 use Rattle.envelope_read.proofs.Promises.{reader-numbers}

@@ -16,10 +16,8 @@ use Rattle.address.specs.declared.Address.{Address}
 use Rattle.address.specs.Address.{zero_address}
 use Rattle.envelope.specs.declared.Fixed.{Fixed}
 use Rattle.envelope.specs.Refusal.{outside}
-use Rattle.buffer.specs.declared.Written.{Written}
 use Rattle.envelope_write.specs.Refusal.{size_for, frame_write_refusal}
 use Rattle.envelope_write.specs.Write.{after_of}
-use Rattle.buffer.specs.Writing.{written_refusal, written_count}
 use Rattle.envelope_write.proofs.RefuseLaws.{count-refused, write-agree}
 use Rattle.envelope_write.proofs.Laws.{after-agree}
 use Rattle.envelope_image.specs.Image.{fields_in, destination_held}
@@ -86,13 +84,13 @@ module _ (b l out : List ℕ) where
               (sym p ∙ r, after-refused (fields_in b) _ l out (λ z. omega arith) ∙ sym (after-refused (fields_in b) _ l out (λ z. omega arith)))
 
       -- the writer's own answer, of the fields and the places in the image, is what C gets
-      pub write_done : (addresses : List Address) (a : Written) {r w : ℕ} {o : List ℕ} → addresses ≡ row 63 zero_address (destination_held b) (min (fields_in b).count 63)
-          → written_refusal a ≡ frame_write_refusal (fields_in b) (element_at zero_address addresses) (length l) (length out)
-          → written_count a ≡ unless_refused (frame_write_refusal (fields_in b) (element_at zero_address addresses) (length l) (length out)) (size_for (fields_in b) (length l)) 0
+      pub write_done : (addresses : List Address) {r w : ℕ} {o : List ℕ} → addresses ≡ row 63 zero_address (destination_held b) (min (fields_in b).count 63)
+          → r ≡ frame_write_refusal (fields_in b) (element_at zero_address addresses) (length l) (length out)
+          → w ≡ unless_refused (frame_write_refusal (fields_in b) (element_at zero_address addresses) (length l) (length out)) (size_for (fields_in b) (length l)) 0
           → o ≡ after_of (fields_in b) (element_at zero_address addresses) l out
-          → r ≡ written_refusal a → w ≡ written_count a → Says b l out r w o
+          → Says b l out r w o
       unfolding pz_write_count
-      write_done addresses a q refusal count buffer hr hw =
+      write_done addresses q refusal count buffer =
           let s = same-writing addresses q in
           let t : frame_write_refusal (fields_in b) (element_at zero_address addresses) (length l) (length out) ≡ pz_write_refusal b (length l) (length out) = s.0 ∙ sym by-writer in
-          (hr ∙ refusal ∙ t, hw ∙ count ∙ rw t, buffer ∙ s.1 ∙ sym buffer-by-writer)
+          (refusal ∙ t, count ∙ rw t, buffer ∙ s.1 ∙ sym buffer-by-writer)

@@ -2,12 +2,12 @@
 #![tactic(auto)]
 
 ghost use Rattle.std.specs.Prelude.{◌≡◌, length};
+ghost use Rattle.refusal.specs.Numbers.{number};
 ghost use Rattle.envelope_door.specs.Calls.{pz_read_refusal, pz_read_place, pz_read_image, stray_ack, pz_write_refusal, pz_write_count, pz_write_frame};
 
-use buffer::Written;
 use envelope::{DESTINATIONS_OFFSET, LONGEST_CONTENTS, MOST_DESTINATIONS};
 use envelope_image::ENVELOPE_SIZE;
-use envelope_read::Read;
+use refusal::Refusal;
 
 // Reads a frame, and writes its image; `place` is where a refused frame is at fault, else 0.
 pub fn pz_read(frame: &[u8], image: &mut [u8], place: &mut u16) -> u8
@@ -15,11 +15,11 @@ pub fn pz_read(frame: &[u8], image: &mut [u8], place: &mut u16) -> u8
 {
     *place = 0;
     match envelope_read::read_frame(frame) {
-        Read::Refused(refusal, at) => {
-            *place = at;
-            refusal
+        Err(fault) => {
+            *place = fault.place as u16;
+            fault.refusal.number()
         }
-        Read::Envelope(e) => {
+        Ok(e) => {
             if image.len() < ENVELOPE_SIZE {
                 return 10;
             }
@@ -29,17 +29,17 @@ pub fn pz_read(frame: &[u8], image: &mut [u8], place: &mut u16) -> u8
     }
 }
 
-// The number of an image whose ack byte is above 1: 6, unless 4 or 5 comes first.
-fn stray_ack(count: u8, n: usize) -> u8
-    ensures { result ≡ stray_ack count n }
+// Why an image is refused whose ack byte is above 1: 6, unless 4 or 5 comes first.
+fn stray_ack(count: u8, n: usize) -> Refusal
+    ensures { number result ≡ stray_ack count n }
 {
     if (count == 0) | (MOST_DESTINATIONS < count) {
-        return 4;
+        return Refusal::FrameCount;
     }
     if LONGEST_CONTENTS < n {
-        return 5;
+        return Refusal::FrameContents;
     }
-    6
+    Refusal::FrameRange
 }
 
 // Writes the frame of an image and some contents; `written` is how many bytes.
@@ -52,12 +52,12 @@ pub fn pz_write(image: &[u8], contents: &[u8], frame: &mut [u8], written: &mut u
     }
     let e = envelope_image::fields_in(image);
     if 1 < image[9] {
-        return stray_ack(e.count, contents.len());
+        return stray_ack(e.count, contents.len()).number();
     }
     let addresses = envelope_image::addresses_in(image);
     match envelope_write::write_frame(e, addresses, contents, frame) {
-        Written::Refused(refusal) => refusal,
-        Written::Wrote(n) => {
+        Err(refusal) => refusal.number(),
+        Ok(n) => {
             *written = n as u16;
             0
         }

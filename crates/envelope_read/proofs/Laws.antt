@@ -4,6 +4,7 @@ use mathlib.Core.Path.{◌≡◌, refl, sym, ap, ◌∙◌}
 use mathlib.Core.List.{List}
 use mathlib.Core.Bool.{Bool, true, false}
 use native.Mathlib.Omega.{arith}
+use lib.Dec.{ltb}
 use lib.ListN.{length, get_or, take, drop}
 use Rattle.buffer.specs.Bytes.{Bytes}
 use Rattle.lists.specs.Places.{repeats, element_at, row}
@@ -11,17 +12,19 @@ use Rattle.lists.specs.Refusals.{refuse, unless_refused}
 use Rattle.lists.proofs.Refusals.{or-refused, taken, refused}
 use borrow.Author.Tests.{lt-ltb, le-ltb, eq-eqb, ne_eqb}
 use Rattle.address.specs.Address.{in_range, same_address}
+use Rattle.std.specs.Prelude.{Ok, Err}
+use Rattle.refusal.specs.declared.Fault.{Fault}
+use Rattle.refusal.specs.Numbers.{AnswersAt}
+use Rattle.refusal.proofs.Laws.{names}
 use Rattle.envelope.specs.declared.Fixed.{Fixed}
-use Rattle.envelope.specs.declared.Judged.{Judged}
-use Rattle.envelope_read.specs.declared.Read.{Read}
-use Rattle.envelope_read.specs.declared.Read.TheVariants.{Envelope, Refused}
+use Rattle.envelope_read.specs.Read.{Read}
+use Rattle.envelope_read.specs.Read.{Envelope, Refused}
 use Rattle.envelope.specs.Frame.{destinations_offset, length_of, count_of, size_of, fields_of, destination_at, check_of}
 use Rattle.envelope.specs.Refusal.{most_destinations, lowest_priority, outside, wrong_version, whole_refusal, values_refusal_by, frame_refusal}
 use Rattle.envelope.specs.Place.{destination_place, first_twin, place_beside, frame_place}
-use Rattle.envelope_read.specs.declared.Fault.{Fault}
 use Rattle.envelope_read.specs.Read.{zero_fields, read_refusal, read_place, read_fields, read_frame_of}
-use Rattle.envelope_read.specs.Private.{whole_fault, value_place}
-use Rattle.envelope.specs.Private.{key_at, judged_by}
+use Rattle.envelope_read.specs.Private.{value_place}
+use Rattle.envelope.specs.Private.{Judged, key_at, judged_by}
 use Rattle.envelope.proofs.Laws.{length-le, never-out, keys-agree, twins-agree, destination-ranged, part_bytes}
 
 -- ---- the refusal of a frame, from that of its shape and from that of its values
@@ -53,33 +56,35 @@ judges f b {j} e keys z p k h =
 -- ---- the places
 
 module _ (f : List ℕ) where
-  pub whole-1 : length f < size_of f → ◌≡◌ {A = Fault} (record { refusal = 1; place = length f }) (whole_fault f)
-  unfolding whole_fault whole_refusal place_beside
-  whole-1 h = rw (lt-ltb (length f) (size_of f) h)
+  pub whole-1 : length f < size_of f → (1 ≡ whole_refusal f) × (length f ≡ place_beside (whole_refusal f) f)
+  unfolding whole_refusal place_beside
+  whole-1 h = let e = lt-ltb (length f) (size_of f) h in (rw e, rw e)
 
-  pub whole-2 : size_of f < length f → ◌≡◌ {A = Fault} (record { refusal = 2; place = size_of f }) (whole_fault f)
-  unfolding whole_fault whole_refusal place_beside
-  whole-2 h = rw (le-ltb (length f) (size_of f) (omega arith), lt-ltb (size_of f) (length f) h)
+  pub whole-2 : size_of f < length f → (2 ≡ whole_refusal f) × (size_of f ≡ place_beside (whole_refusal f) f)
+  unfolding whole_refusal place_beside
+  whole-2 h =
+      let e = le-ltb (length f) (size_of f) (omega arith) in
+      let g = lt-ltb (size_of f) (length f) h in
+      (rw (e, g), rw (e, g))
 
   module _ (e : length f ≡ size_of f) where
-    pub whole-3 : (check_of (take (length f - 1) f) ≡ get_or f (length f - 1) 0 → ⊥) → ◌≡◌ {A = Fault} (record { refusal = 3; place = length f - 1 }) (whole_fault f)
-    unfolding whole_fault whole_refusal place_beside
-    whole-3 n =
-        rw (
-          le-ltb (length f) (size_of f) (omega (arith, e)),
-          le-ltb (size_of f) (length f) (omega (arith, e)),
-          ne_eqb (check_of (take (length f - 1) f)) (get_or f (length f - 1) 0) n,
-        )
-        (ap (λ (m : ℕ). record { refusal = 3; place = m - 1 }) e)
+    short : ltb (length f) (size_of f) ≡ false
+    short = le-ltb (length f) (size_of f) (omega (arith, e))
 
-    pub whole-0 : check_of (take (length f - 1) f) ≡ get_or f (length f - 1) 0 → ◌≡◌ {A = Fault} (record { refusal = 0; place = 0 }) (whole_fault f)
-    unfolding whole_fault whole_refusal place_beside
+    long : ltb (size_of f) (length f) ≡ false
+    long = le-ltb (size_of f) (length f) (omega (arith, e))
+
+    pub whole-3 : (check_of (take (length f - 1) f) ≡ get_or f (length f - 1) 0 → ⊥) → (3 ≡ whole_refusal f) × (length f - 1 ≡ place_beside (whole_refusal f) f)
+    unfolding whole_refusal place_beside
+    whole-3 n =
+        let c = ne_eqb (check_of (take (length f - 1) f)) (get_or f (length f - 1) 0) n in
+        (rw (short, long, c), rw (short, long, c) (ap (λ (m : ℕ). m - 1) e))
+
+    pub whole-0 : check_of (take (length f - 1) f) ≡ get_or f (length f - 1) 0 → (whole_refusal f ≡ 0) × (place_beside (whole_refusal f) f ≡ 0)
+    unfolding whole_refusal place_beside
     whole-0 n =
-        rw (
-          le-ltb (length f) (size_of f) (omega (arith, e)),
-          le-ltb (size_of f) (length f) (omega (arith, e)),
-          eq-eqb (check_of (take (length f - 1) f)) (get_or f (length f - 1) 0) n,
-        )
+        let c = eq-eqb (check_of (take (length f - 1) f)) (get_or f (length f - 1) 0) n in
+        (rw (short, long, c), rw (short, long, c))
 
 -- the place of values' numbers: 5 and 6 are none of a reader's
 value-by-tests : (f : List ℕ) (p q r s : Bool) (twin : ℕ)
@@ -101,6 +106,19 @@ place-of-values f b {j} g h =
     rw (e, le-ltb 1023 (length_of f) (length-le f b))
     (value-by-tests f (outside most_destinations (fields_of f).count) (outside lowest_priority (fields_of f).priority) (repeats same_address (destination_at (drop destinations_offset f)) (count_of f)) (wrong_version (fields_of f).version (fields_of f).kind) j.twin
     (λ z. h (e ∙ rw (le-ltb 1023 (length_of f) (length-le f b)) z)) (λ q. g.twin (e ∙ rw (le-ltb 1023 (length_of f) (length-le f b)) q)))
+
+-- the place of a frame's number, and of none
+pub place_of-broken : (f : List ℕ) {k place : ℕ} → (k ≡ 0 → ⊥) → k ≡ whole_refusal f → place ≡ place_beside (whole_refusal f) f → (k ≡ frame_refusal f) × (place ≡ frame_place f)
+unfolding frame_place
+place_of-broken f {k} {place} h p q = let e = refusal-broken f p h in (e, q ∙ ap (λ (n : ℕ). place_beside n f) (sym p ∙ e))
+
+pub place_at : (f : List ℕ) {k : ℕ} → k ≡ frame_refusal f → place_beside k f ≡ frame_place f
+unfolding frame_place
+place_at f h = ap (λ (n : ℕ). place_beside n f) h
+
+pub place-none : (f : List ℕ) → frame_refusal f ≡ 0 → frame_place f ≡ 0
+unfolding frame_place place_beside
+place-none f z = rw z
 
 -- ---- what the readers' answers say
 
@@ -168,3 +186,10 @@ read-envelope f e h = opened (frame_refusal f) (frame_place f) e (fields_of f) h
 pub read-refused : (f : List ℕ) (k at : ℕ) → Refused k at ≡ read_frame_of f → (frame_refusal f ≡ 0 → ⊥) × (k ≡ frame_refusal f) × (at ≡ frame_place f)
 unfolding read_frame_of
 read-refused f k at h = closed (frame_refusal f) (frame_place f) k at (fields_of f) h
+
+-- the same of the reader's answer as the code has it
+pub opened-answer : (f : List ℕ) (e : Fixed) → AnswersAt (Ok e) (frame_refusal f) (frame_place f) (fields_of f) → Opened (frame_refusal f) e (fields_of f)
+opened-answer f e h = record { none = h.0; same = h.1.1 }
+
+pub refused-answer : (f : List ℕ) (e : Fault) → AnswersAt (Err e) (frame_refusal f) (frame_place f) (fields_of f) → frame_refusal f ≡ 0 → ⊥
+refused-answer f e h z = names.none_zero e.refusal (h.0 ∙ z)

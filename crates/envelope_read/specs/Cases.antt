@@ -6,7 +6,7 @@ use Rattle.address.specs.Address.{address_of, station_in_range, in_range, same_s
 use Rattle.envelope.specs.Frame.{length_of, count_of, fields_of, destination_at, xor_from}
 use Rattle.envelope.specs.Refusal.{outside, stray_at, out_of_range, wrong_version, whole_refusal, values_refusal_by, frame_refusal}
 use Rattle.envelope.specs.Cases.{fire_body, fire_frame, fire_fields}
-use Rattle.envelope_read.specs.declared.Read.TheVariants.{Envelope, Refused}
+use Rattle.envelope_read.specs.Read.{Envelope, Refused}
 use Rattle.envelope.specs.Place.{first_twin, stray_place, place_beside, frame_place}
 use Rattle.envelope_read.specs.Read.{read_refusal, read_place, read_fields, read_frame_of}
 use Rattle.envelope_read.specs.Parts.{contents_of, contents_offset_of, destinations_of}

@@ -7,7 +7,7 @@ use Rattle.address.specs.declared.Address.{Address}
 use Rattle.envelope.specs.Frame.{destinations_offset, length_of, count_of, destination_at, check_of}
 use Rattle.envelope.specs.Refusal.{frame_refusal}
 use Rattle.envelope.specs.Place.{frame_place}
-use Rattle.envelope_read.specs.declared.Read.TheVariants.{Envelope}
+use Rattle.envelope_read.specs.Read.{Envelope}
 use Rattle.envelope_read.specs.Read.{read_frame_of}
 use Rattle.envelope_read.specs.Parts.{contents_of, contents_offset_of}
 

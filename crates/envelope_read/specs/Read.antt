@@ -3,11 +3,14 @@ use Rattle.std.specs.Prelude.{ℕ, false, List}
 use Rattle.lists.specs.Refusals.{unless_refused}
 use Rattle.address.specs.Address.{zero_address}
 use Rattle.envelope.specs.declared.Fixed.{Fixed}
-use Rattle.envelope_read.specs.declared.Read.{Read}
-use Rattle.envelope_read.specs.declared.Read.TheVariants.{Envelope, Refused}
 use Rattle.envelope.specs.Frame.{fields_of}
 use Rattle.envelope.specs.Refusal.{frame_refusal}
 use Rattle.envelope.specs.Place.{frame_place}
+
+-- the fixed fields of a frame; or the number that refuses it, and the place of the first byte of the first field at fault
+pub data Read : Type 0 where
+  Envelope : Fixed → Read
+  Refused : ℕ → ℕ → Read
 
 -- the fields beside a refusal: every one 0
 abbrev pub zero_fields : Fixed

@@ -3,13 +3,14 @@ ghost use Rattle.std.specs.Prelude.{◌≡◌, ◌≤◌};
 ghost use Rattle.lists.specs.Places.{row};
 ghost use Rattle.envelope.specs.Frame.{fields_of, destination_at};
 ghost use Rattle.envelope.specs.Private.{key_at};
-ghost use Rattle.envelope.specs.Refusal.{most_destinations};
-ghost use Rattle.envelope_read.specs.Private.{whole_fault};
+ghost use Rattle.envelope.specs.Place.{place_beside};
+ghost use Rattle.envelope.specs.Refusal.{most_destinations, whole_refusal};
+ghost use Rattle.refusal.specs.Numbers.{AnswersAt};
 
-use crate::Fault;
 use address::Seq;
 use address_bytes::PACKED_SIZE;
 use envelope::{DESTINATIONS_OFFSET, Fixed, SMALLEST_FRAME};
+use refusal::{Fault, Refusal};
 
 // The fixed fields; a byte past the end counts as 0.
 pub fn fields_of(frame: &[u8]) -> Fixed
@@ -33,36 +34,24 @@ pub fn fields_of(frame: &[u8]) -> Fixed
     }
 }
 
-// Refusals 1 to 3 and the place of each, or 0 and 0.
-pub fn whole_fault(frame: &[u8]) -> Fault
-    ensures { result ≡ whole_fault frame.now }
+// Refusals 1 to 3, and the place of each.
+pub fn whole(frame: &[u8]) -> Result<(), Fault>
+    ensures { AnswersAt result (whole_refusal frame.now) (place_beside (whole_refusal frame.now) frame.now) tt }
 {
     let n = frame.len();
     let w = buffer::word_at(frame, 3) as usize;
     let size = SMALLEST_FRAME + PACKED_SIZE * (w % 64) + w / 64;
     if n < size {
-        return Fault {
-            refusal: 1,
-            place: n as u16,
-        };
+        return Err(Refusal::FrameShort.at(n));
     }
     if size < n {
-        return Fault {
-            refusal: 2,
-            place: size as u16,
-        };
+        return Err(Refusal::FrameLong.at(size));
     }
     let last = n - 1;
     if envelope::check(&frame[..last]) != frame[last] {
-        return Fault {
-            refusal: 3,
-            place: last as u16,
-        };
+        return Err(Refusal::FrameCheck.at(last));
     }
-    Fault {
-        refusal: 0,
-        place: 0,
-    }
+    Ok(())
 }
 
 // The keys of the first n destinations of the part of a frame that begins with them.

@@ -3,7 +3,7 @@ ghost use Rattle.std.specs.Prelude.{◌≡◌, ◌+◌};
 ghost use Rattle.envelope_read.specs.Parts.{contents_of, contents_offset_of, destinations_of};
 
 use crate::addresses::{no_addresses, read_addresses};
-use crate::{Destinations, Read, read_frame};
+use crate::{Destinations, read_frame};
 use address_bytes::PACKED_SIZE;
 use envelope::{CONTENTS_OFFSET, DESTINATIONS_OFFSET};
 
@@ -12,7 +12,7 @@ pub fn contents_of(frame: &[u8]) -> &[u8]
     ensures result_value { result.now ≡ contents_of frame.now }
     ensures place { (result.ref_ptr.0 ≡ frame.entry.ref_ptr.0) × (result.ref_ptr.1 ≡ contents_offset_of frame.now + frame.entry.ref_ptr.1) }
 {
-    let Read::Envelope(e) = read_frame(frame) else {
+    let Ok(e) = read_frame(frame) else {
         return &frame[..0];
     };
     let start = CONTENTS_OFFSET + PACKED_SIZE * (e.count as usize);
@@ -24,7 +24,7 @@ pub fn contents_of(frame: &[u8]) -> &[u8]
 pub fn destinations_of(frame: &[u8]) -> Destinations
     ensures { result ≡ destinations_of frame.now }
 {
-    let Read::Envelope(e) = read_frame(frame) else {
+    let Ok(e) = read_frame(frame) else {
         return Destinations {
             count: 0,
             addresses: no_addresses(),

@@ -1,23 +1,22 @@
 -- Laws of the writer: the stores that make a frame, its length, and what a refusal says.
 use Prim.Native.Nat.{ℕ, ◌+◌, ◌*◌, ◌≤◌}
-use mathlib.Core.Path.{◌≡◌, refl, sym, ap, ◌∙◌}
+use mathlib.Core.Path.{◌≡◌, refl, sym}
 use mathlib.Core.List.{List, [], ◌∷◌, ◌++◌}
 use native.Mathlib.Omega.{arith}
 use lib.ListN.{length, take, drop, set, length-append}
 use lib.Seq.{sets}
 use Rattle.lists.specs.Places.{joined}
-use Rattle.lists.specs.Refusals.{unless_refused}
 use Rattle.lists.proofs.Places.{Agree, length-joined, joined-agree}
 use Rattle.lists.proofs.Stores.{sets-append, sets-front, taken-front}
-use Rattle.buffer.specs.Writing.{written_refusal, written_count}
 use Rattle.lists.proofs.Refusals.{taken, refused}
-use Rattle.buffer.proofs.Writing.{wrote-refusal, wrote_count, wrote-size, wrote-taken, wrote-refused}
+use Rattle.buffer.proofs.Writing.{wrote-size}
 use Rattle.address.specs.declared.Address.{Address}
 use Rattle.address_bytes.specs.Packed.{packed_bytes}
+use Rattle.std.specs.Prelude.{Ok}
+use Rattle.refusal.specs.Numbers.{Answers}
 use Rattle.envelope.specs.declared.Fixed.{Fixed}
 use Rattle.envelope.specs.Frame.{check_of}
-use Rattle.buffer.specs.declared.Written.{Written}
-use Rattle.buffer.specs.declared.Written.TheVariants.{Wrote, Refused}
+use Rattle.buffer.specs.Writing.{Wrote}
 use Rattle.envelope_write.specs.Refusal.{size_for, frame_write_refusal}
 use Rattle.envelope_write.proofs.RefuseLaws.{ready, write-agree}
 use Rattle.envelope_write.specs.Promises.{FramesShort}
@@ -95,23 +94,17 @@ frames-short e d n room k h =
     let r = ready e d n room w.0 in
     omega (arith, w.1, r.counted, r.short)
 
+-- the same of the writer's answer as the code has it
+pub written-short : (e : Fixed) (d : ℕ → Address) (n room k : ℕ) → Answers (Ok k) (frame_write_refusal e d n room) (size_for e n) → k ≤ 1222
+written-short e d n room k h = let r = ready e d n room h.0 in omega (arith, h.1, r.counted, r.short)
+
 -- ---- all that the writer promises, from its refusal
 
-pub record Told (e : Fixed) (d : ℕ → Address) (l out : List ℕ) (r : Written) (after : List ℕ) : Type 0 where
-  pub answer : r ≡ write_frame_of e d (length l) (length out)
-  pub buffer : after ≡ after_of e d l out
-
 module _ (e : Fixed) (d : ℕ → Address) (l out : List ℕ) where
-  pub write-told : {r : Written} → r ≡ write_frame_of e d (length l) (length out)
-      → (written_refusal r ≡ frame_write_refusal e d (length l) (length out)) × (written_count r ≡ unless_refused (frame_write_refusal e d (length l) (length out)) (size_for e (length l)) 0)
-  unfolding write_frame_of
-  write-told h = (ap written_refusal h ∙ wrote-refusal _ _, ap written_count h ∙ wrote_count _ _)
+  pub after-refused : (frame_write_refusal e d (length l) (length out) ≡ 0 → ⊥) → out ≡ after_of e d l out
+  unfolding after_of
+  after-refused h = sym (refused _ _ (frame_write_refusal e d (length l) (length out)) h)
 
-  module _ {k : ℕ} (p : k ≡ frame_write_refusal e d (length l) (length out)) where
-    pub write-refused : (k ≡ 0 → ⊥) → Told e d l out (Refused k) out
-    unfolding write_frame_of after_of
-    write-refused h = record { answer = rw (← p) (wrote-refused k _ h); buffer = rw (← p) (sym (refused _ _ k h)) }
-
-    pub write-wrote : k ≡ 0 → Told e d l out (Wrote (size_for e (length l))) (frame_bytes e d l ++ drop (length (frame_bytes e d l)) out)
-    unfolding write_frame_of after_of
-    write-wrote z = record { answer = rw (← p) (wrote-taken _ z); buffer = rw (← p) (sym (taken _ _ z)) }
+  pub after-written : frame_write_refusal e d (length l) (length out) ≡ 0 → frame_bytes e d l ++ drop (length (frame_bytes e d l)) out ≡ after_of e d l out
+  unfolding after_of
+  after-written z = sym (taken _ _ z)

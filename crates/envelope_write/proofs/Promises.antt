@@ -16,7 +16,7 @@ use Rattle.envelope.specs.Refusal.{most_destinations, longest_contents, lowest_p
 use Rattle.envelope_read.specs.Read.{read_frame_of}
 use Rattle.envelope_read.specs.Parts.{contents_of, destinations_of}
 use Rattle.envelope_read.proofs.Laws.{read-envelope}
-use Rattle.buffer.specs.declared.Written.TheVariants.{Wrote}
+use Rattle.buffer.specs.Writing.{Wrote}
 use Rattle.envelope_write.specs.Refusal.{size_for, frame_write_refusal}
 use Rattle.envelope_write.specs.Write.{frame_bytes, write_frame_of, after_of}
 use Rattle.envelope_write.specs.Promises.{ReadUndoesWrite, WriteUndoesRead, writer_refusals, WriterNumbers}

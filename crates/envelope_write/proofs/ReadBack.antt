@@ -17,7 +17,7 @@ use Rattle.address.specs.Address.{in_range, same_address, zero_address}
 use Rattle.address_bytes.specs.Packed.{packed_bytes, packed_in}
 use Rattle.address_bytes.proofs.PackedLaws.{undo}
 use Rattle.envelope.specs.declared.Fixed.{Fixed}
-use Rattle.envelope_read.specs.declared.Read.TheVariants.{Envelope}
+use Rattle.envelope_read.specs.Read.{Envelope}
 use Rattle.envelope.specs.Frame.{destinations_offset, prot_offset, contents_offset, count_of, length_of, size_of, fields_of, destination_at, check_of, with_length}
 use Rattle.envelope.specs.Refusal.{out_of_range, whole_refusal, values_refusal_by, values_refusal, frame_refusal}
 use Rattle.envelope_read.specs.Read.{read_frame_of}

@@ -2,8 +2,7 @@
 use Rattle.std.specs.Prelude.{ℕ, ◌≡◌, refl, false, List, [], ◌∷◌}
 use Rattle.lists.specs.Places.{any_below, same_at, repeat_at, repeats, element_at, joined}
 use Rattle.lists.specs.Refusals.{unless_refused}
-use Rattle.buffer.specs.declared.Written.TheVariants.{Wrote, Refused}
-use Rattle.buffer.specs.Writing.{wrote_unless}
+use Rattle.buffer.specs.Writing.{Wrote, Refused, wrote_unless}
 use Rattle.address.specs.declared.Address.{Address}
 use Rattle.address.specs.Address.{address_of, station_in_range, in_range, same_station, same_address}
 use Rattle.envelope.specs.declared.Fixed.{Fixed}

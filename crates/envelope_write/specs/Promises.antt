@@ -7,10 +7,10 @@ use Rattle.address.specs.declared.Address.{Address}
 use Rattle.address.specs.Address.{zero_address}
 use Rattle.envelope.specs.declared.Fixed.{Fixed}
 use Rattle.envelope.specs.Frame.{with_length}
-use Rattle.envelope_read.specs.declared.Read.TheVariants.{Envelope}
+use Rattle.envelope_read.specs.Read.{Envelope}
 use Rattle.envelope_read.specs.Read.{read_frame_of}
 use Rattle.envelope_read.specs.Parts.{contents_of, destinations_of}
-use Rattle.buffer.specs.declared.Written.TheVariants.{Wrote}
+use Rattle.buffer.specs.Writing.{Wrote}
 use Rattle.envelope_write.specs.Refusal.{frame_write_refusal}
 use Rattle.envelope_write.specs.Write.{write_frame_of, after_of}
 

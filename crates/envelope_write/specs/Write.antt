@@ -2,8 +2,7 @@
 use Rattle.std.specs.Prelude.{ℕ, ◌+◌, ◌*◌, List, [], ◌∷◌, ◌++◌, cond, length}
 use Rattle.buffer.specs.Bytes.{word_bytes}
 use Rattle.lists.specs.Places.{joined}
-use Rattle.buffer.specs.declared.Written.{Written}
-use Rattle.buffer.specs.Writing.{wrote_unless, lent_after}
+use Rattle.buffer.specs.Writing.{Written, wrote_unless, lent_after}
 use Rattle.address.specs.declared.Address.{Address}
 use Rattle.address_bytes.specs.Packed.{packed_bytes}
 use Rattle.envelope.specs.declared.Fixed.{Fixed}

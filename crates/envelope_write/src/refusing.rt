@@ -4,11 +4,13 @@ ghost use Rattle.lists.specs.Places.{any_below, element_at, row};
 ghost use Rattle.address.specs.Address.{zero_address};
 ghost use Rattle.envelope.specs.Refusal.{most_destinations, stray_at, out_of_range};
 ghost use Rattle.envelope.specs.Private.{key_at};
+ghost use Rattle.refusal.specs.Numbers.{number_in};
 ghost use Rattle.envelope_write.specs.Refusal.{frame_write_refusal};
 
 use address::{Address, LARGEST_SEQ};
 use address_bytes::PACKED_SIZE;
 use envelope::{Fixed, MOST_DESTINATIONS, SMALLEST_FRAME};
+use refusal::Refusal;
 
 // Whether one of the first n addresses is out of range.
 fn any_stray(addresses: [Address; 63], n: usize) -> bool
@@ -43,23 +45,25 @@ fn keys_of(addresses: [Address; 63], n: usize) -> [u32; 63]
     keys
 }
 
-// Refusals 4 to 10 of an envelope with n bytes of contents, or 0.
-pub fn frame_write_refusal(e: Fixed, addresses: [Address; 63], n: usize, room: usize) -> u8
-    ensures { result ≡ frame_write_refusal e (element_at zero_address addresses) n room }
+// Refusals 4 to 10 of an envelope with n bytes of contents.
+pub fn frame_write_refusal(
+    e: Fixed,
+    addresses: [Address; 63],
+    n: usize,
+    room: usize,
+) -> Result<(), Refusal>
+    ensures { number_in result ≡ frame_write_refusal e (element_at zero_address addresses) n room }
 {
     if MOST_DESTINATIONS < e.count {
-        return 4;
+        return Err(Refusal::FrameCount);
     }
     let count = e.count as usize;
     let stray = out_of_range(e, addresses);
     let keys = keys_of(addresses, count);
-    let judged = envelope::judged_by(e, n, stray, &keys);
-    if judged.refusal != 0 {
-        return judged.refusal;
-    }
+    envelope::judged_by(e, n, stray, &keys)?;
     let size = SMALLEST_FRAME + PACKED_SIZE * count + n;
     if room < size {
-        return 10;
+        return Err(Refusal::NoRoom);
     }
-    0
+    Ok(())
 }

@@ -38,13 +38,6 @@ pub struct Ledger {
     pub count: u8,
 }
 
-// What answer and clear give: the number, and the ledger after the call.
-#[derive(Clone, Copy)]
-pub struct Outcome {
-    pub ledger: Ledger,
-    pub refusal: u8,
-}
-
 // What stands at a place with no leg.
 pub fn no_leg() -> Leg
     ensures { result ≡ no_leg }

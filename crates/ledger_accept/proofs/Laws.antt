@@ -10,7 +10,7 @@ use Rattle.buffer.specs.Bytes.{Bytes}
 use Rattle.lists.specs.Places.{any_below}
 use Rattle.lists.specs.Refusals.{unless_refused}
 use Rattle.lists.proofs.Bools.{or-no-left, and_both}
-use Rattle.lists.proofs.Refusals.{pass, or-pass, or-refused, taken, refused}
+use Rattle.lists.proofs.Refusals.{pass, or-pass, or-refused, taken}
 use Rattle.address.specs.declared.Port.{Port}
 use Rattle.address.specs.declared.Address.{Address}
 use Rattle.address.specs.Address.{in_range}
@@ -113,18 +113,6 @@ module _ (l : Ledger) (e : Fixed) (stray : Bool) (arrival : Port) (t : Table) (t
 -- ---- the whole call
 
 module _ (l : Ledger) (f : List ℕ) (arrival : Port) (t : Table) (ticks : ℕ) where
-  -- beside a refusal no leg is added
-  pub accept-refused : {k place : ℕ} → k ≡ accept_refusal l f arrival t ticks → (k ≡ 0 → ⊥) → place ≡ frame_place f
-      → ◌≡◌ {A = Added} (record { refusal = k; added = 0; place = place; ledger = l }) (accept_of l f arrival t ticks)
-  unfolding accept_of
-  accept-refused {k} p h at = λ i. record { refusal = p i; added = none i; place = at i; ledger = same i }
-    where
-      none : 0 ≡ unless_refused (accept_refusal l f arrival t ticks) (cond (fields_of f).ack (fields_of f).count 0) 0
-      none = rw (← p) (sym (refused _ 0 k h))
-
-      same : l ≡ unless_refused (accept_refusal l f arrival t ticks) (cond (fields_of f).ack (with_legs l (fields_of f) (destination_at (drop destinations_offset f)) arrival t ticks) l) l
-      same = rw (← p) (sym (refused _ l k h))
-
   -- the number of a refused frame, and of an accepted one: its destinations are in range
   pub read-refusal : (frame_refusal f ≡ 0 → ⊥) → frame_refusal f ≡ accept_refusal l f arrival t ticks
   unfolding accept_refusal
@@ -133,6 +121,18 @@ module _ (l : Ledger) (f : List ℕ) (arrival : Port) (t : Table) (ticks : ℕ) 
   pub call-refusal : Bytes f → frame_refusal f ≡ 0 → {e : Fixed} → e ≡ fields_of f → call_refusal l e false arrival t ticks ≡ accept_refusal l f arrival t ticks
   unfolding accept_refusal
   call-refusal b z p = rw (z, p, never-stray (drop destinations_offset f) (part_bytes destinations_offset f b) (fields_of f).count)
+
+  -- a refused frame has its number and its place
+  pub frame-refused : {n place : ℕ} → (n ≡ 0 → ⊥) → (n ≡ frame_refusal f) × (place ≡ frame_place f)
+      → (n ≡ (accept_of l f arrival t ticks).refusal) × (place ≡ (accept_of l f arrival t ticks).place)
+  unfolding accept_of
+  frame-refused some r = (r.0 ∙ read-refusal (λ z. some (r.0 ∙ z)), r.1)
+
+  -- a call that is refused after it has its number, and no place
+  pub call-refused : {n : ℕ} → n ≡ accept_refusal l f arrival t ticks → frame_place f ≡ 0
+      → (n ≡ (accept_of l f arrival t ticks).refusal) × (0 ≡ (accept_of l f arrival t ticks).place)
+  unfolding accept_of
+  call-refused p at = (p, sym at)
 
   module _ (z : accept_refusal l f arrival t ticks ≡ 0) (e : Fixed) (p : e ≡ fields_of f) where
     nowhere : 0 ≡ frame_place f
@@ -152,14 +152,18 @@ module _ (l : Ledger) (f : List ℕ) (arrival : Port) (t : Table) (ticks : ℕ) 
     ledger-after : {b : Bool} → e.ack ≡ b → unless_refused (accept_refusal l f arrival t ticks) (cond (fields_of f).ack whole l) l ≡ cond b whole l
     ledger-after a = taken _ _ z ∙ ap (λ (x : Bool). cond x whole l) (asked a)
 
-    pub accept-quiet : e.ack ≡ false → ◌≡◌ {A = Added} (record { refusal = 0; added = 0; place = 0; ledger = l }) (accept_of l f arrival t ticks)
+    pub accept-quiet : e.ack ≡ false → ((accept_of l f arrival t ticks).refusal ≡ 0)
+        × (((accept_of l f arrival t ticks).place ≡ 0)
+        × (◌≡◌ {A = Added} (record { ledger = l; added = 0 }) (record { ledger = (accept_of l f arrival t ticks).ledger; added = (accept_of l f arrival t ticks).added })))
     unfolding accept_of whole
-    accept-quiet a = λ i. record { refusal = sym z i; added = sym (refusal-added a) i; place = nowhere i; ledger = sym (ledger-after a) i }
+    accept-quiet a = (z, (sym nowhere, λ i. record { ledger = sym (ledger-after a) i; added = sym (refusal-added a) i }))
 
     pub accept-added : e.ack ≡ true → {m : Ledger} → m ≡ with_legs l e (destination_at (take (length f - 5) (drop 5 f))) arrival t ticks
-        → ◌≡◌ {A = Added} (record { refusal = 0; added = e.count; place = 0; ledger = m }) (accept_of l f arrival t ticks)
+        → ((accept_of l f arrival t ticks).refusal ≡ 0)
+        × (((accept_of l f arrival t ticks).place ≡ 0)
+        × (◌≡◌ {A = Added} (record { ledger = m; added = e.count }) (record { ledger = (accept_of l f arrival t ticks).ledger; added = (accept_of l f arrival t ticks).added })))
     unfolding accept_of whole
     accept-added a {m} h =
         let c : e.count ≡ (fields_of f).count = ap (λ (x : Fixed). x.count) p in
         let w : m ≡ whole = h ∙ rw (p, part-from 5 f) in
-        λ i. record { refusal = sym z i; added = (c ∙ sym (refusal-added a)) i; place = nowhere i; ledger = (w ∙ sym (ledger-after a)) i }
+        (z, (sym nowhere, λ i. record { ledger = (w ∙ sym (ledger-after a)) i; added = (c ∙ sym (refusal-added a)) i }))

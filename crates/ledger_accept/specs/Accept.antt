@@ -11,14 +11,20 @@ use Rattle.envelope.specs.declared.Fixed.{Fixed}
 use Rattle.envelope.specs.Frame.{destinations_offset, fields_of, destination_at}
 use Rattle.envelope.specs.Refusal.{stray_at, frame_refusal}
 use Rattle.envelope.specs.Place.{frame_place}
-use Rattle.table.specs.declared.Choice.{Choice}
+use Rattle.table.specs.Choice.{Choice}
 use Rattle.table.specs.declared.Table.{Table}
 use Rattle.table.specs.Table.{table_in_range, choose_of, choice_refusal}
 use Rattle.ledger.specs.declared.Standing.TheVariants.{Open, Undeliverable}
 use Rattle.ledger.specs.declared.Leg.{Leg}
 use Rattle.ledger.specs.declared.Ledger.{Ledger}
 use Rattle.ledger.specs.Rules.{most_legs, leg_at, is_open, obeys}
-use Rattle.ledger_accept.specs.declared.Added.{Added}
+
+-- what accept comes to: the number, how many legs were added, the place of a refused frame, and the ledger after the call
+pub record Added : Type 0 where
+  pub ledger : Ledger
+  pub refusal : ℕ
+  pub added : ℕ
+  pub place : ℕ
 
 -- an open leg with this source and sequence number, to any destination (3.3.4)
 unfoldable pub is_open_from : Address → Seq → Leg → Bool

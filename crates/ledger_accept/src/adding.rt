@@ -1,6 +1,7 @@
 // The legs of a message, one for each destination.
 ghost use Rattle.std.specs.Prelude.{◌≡◌, true, ◌+◌, ◌≤◌};
 ghost use Rattle.envelope.specs.Frame.{destination_at};
+ghost use Rattle.table.specs.Choice.{choice_in};
 ghost use Rattle.table.specs.Table.{table_in_range, call_in_range};
 ghost use Rattle.ledger_accept.specs.Accept.{is_unrouted, leg_for, with_legs};
 ghost use Rattle.address.specs.Address.{largest_port};
@@ -10,13 +11,14 @@ use address::{Address, Port};
 use address_bytes::PACKED_SIZE;
 use envelope::Fixed;
 use ledger::{Ledger, Leg, Standing};
+use refusal::Refusal;
 use table::{Choice, Table};
 
 // Whether a choice says that there is no route.
-fn is_unrouted(c: Choice) -> bool
-    ensures { result ≡ is_unrouted c }
+fn is_unrouted(c: Result<Choice, Refusal>) -> bool
+    ensures { result ≡ is_unrouted (choice_in c) }
 {
-    matches!(c, Choice::Refused(52))
+    matches!(c, Err(Refusal::NoEntry))
 }
 
 // The leg for a destination; table, port and destination were found in range.

@@ -11,7 +11,7 @@ use Rattle.ledger.specs.declared.Ledger.{Ledger}
 use Rattle.ledger.specs.Rules.{with_standing, leg_at, is_open_leg, obeys}
 use Rattle.ledger_answer.specs.declared.Reply.{Reply}
 use Rattle.ledger_answer.specs.declared.Reply.TheVariants.{Ack, Nak}
-use Rattle.ledger.specs.declared.Outcome.{Outcome}
+use Rattle.ledger.specs.Outcome.{Outcome}
 
 -- the standing that a reply gives
 unfoldable pub standing_for : Reply → Standing

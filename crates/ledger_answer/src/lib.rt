@@ -1,12 +1,15 @@
 // An answer settles the open leg that it names, or marks it as waiting.
 #![tactic(auto)]
 
-ghost use Rattle.std.specs.Prelude.{◌≡◌, true};
-ghost use Rattle.ledger_answer.specs.Answer.{standing_for, settled, waits, answered, answered_place, answer_of};
+ghost use Rattle.std.specs.Prelude.{◌≡◌, true, cond, Some, None};
+ghost use Rattle.lists.specs.Places.{any_below};
+ghost use Rattle.refusal.specs.Numbers.{Answers};
+ghost use Rattle.ledger_answer.specs.Answer.{standing_for, settled, waits, answered, answered_at, answered_place, answer_of};
 ghost use Rattle.ledger.specs.Rules.{obeys};
 
 use address::{Address, Seq};
-use ledger::{Ledger, Leg, Outcome, Standing, is_open_leg, obeys, with_standing};
+use ledger::{Ledger, Leg, Standing, is_open_leg, obeys, with_standing};
+use refusal::Refusal;
 
 // The reason set "alerter" (appendix A, <reason_code_set>), and its code "wait_ack" (D.1).
 const ALERTER: u8 = 2;
@@ -56,41 +59,37 @@ fn answered(g: Leg, r: Reply) -> Leg
     settled(g, r)
 }
 
-// The place of the open leg that an answer names, or the number of legs. The newest are looked at first: there is at most one.
-fn answered_place(l: Ledger, by: Address, to: Address, seq: Seq) -> usize
+// The place of the open leg that an answer names. The newest are looked at first: there is at most one.
+fn answered_place(l: Ledger, by: Address, to: Address, seq: Seq) -> Option<usize>
     requires { obeys l ≡ true }
-    ensures { result ≡ answered_place l by to seq }
+    ensures { result ≡ cond (any_below (answered_at l by to seq) l.count) (Some (answered_place l by to seq)) None }
 {
     let n = l.count as usize;
     for i in (0..n).rev() {
         if is_open_leg(l.legs[i], to, by, seq) {
-            return i;
+            return Some(i);
         }
     }
-    n
+    None
 }
 
-// `by` answers a message of `to` with this number: 60 the rules, 64 no such open leg.
-pub fn answer(l: Ledger, by: Address, to: Address, seq: Seq, reply: Reply) -> Outcome
-    ensures { result ≡ answer_of l by to seq reply }
+// `by` answers a message of `to` with this number: the ledger after it, or 60 the rules, 64 no such open leg.
+pub fn answer(
+    l: Ledger,
+    by: Address,
+    to: Address,
+    seq: Seq,
+    reply: Reply,
+) -> Result<Ledger, Refusal>
+    ensures { Answers result (answer_of l by to seq reply).refusal (answer_of l by to seq reply).ledger }
 {
     if !obeys(l) {
-        return Outcome {
-            refusal: 60,
-            ledger: l,
-        };
+        return Err(Refusal::BadLedger);
     }
-    let k = answered_place(l, by, to, seq);
-    if l.count as usize <= k {
-        return Outcome {
-            refusal: 64,
-            ledger: l,
-        };
-    }
+    let Some(k) = answered_place(l, by, to, seq) else {
+        return Err(Refusal::NoOpenLeg);
+    };
     let mut m = l;
     m.legs[k] = answered(l.legs[k], reply);
-    Outcome {
-        refusal: 0,
-        ledger: m,
-    }
+    Ok(m)
 }

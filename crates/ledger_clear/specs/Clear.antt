@@ -4,7 +4,7 @@ use Rattle.lists.specs.Lists.{without}
 use Rattle.lists.specs.Refusals.{refuse, unless_refused}
 use Rattle.ledger.specs.declared.Ledger.{Ledger}
 use Rattle.ledger.specs.Rules.{no_leg, leg_at, is_open, obeys}
-use Rattle.ledger.specs.declared.Outcome.{Outcome}
+use Rattle.ledger.specs.Outcome.{Outcome}
 
 -- the legs after the place move down one, and the old last place holds no leg
 unfoldable pub close_up : Ledger → ℕ → Ledger

@@ -2,10 +2,12 @@
 #![tactic(auto)]
 
 ghost use Rattle.std.specs.Prelude.{◌≡◌, ◌≤◌, ◌<◌};
+ghost use Rattle.refusal.specs.Numbers.{Answers};
 ghost use Rattle.ledger_clear.specs.Clear.{close_up, clear_of};
 ghost use Rattle.ledger.specs.Rules.{most_legs};
 
-use ledger::{Ledger, Outcome, is_open, no_leg, obeys};
+use ledger::{Ledger, is_open, no_leg, obeys};
+use refusal::Refusal;
 
 // The ledger without the leg at a place; those after it move down one.
 fn close_up(l: Ledger, place: usize) -> Ledger
@@ -20,31 +22,19 @@ fn close_up(l: Ledger, place: usize) -> Ledger
     m
 }
 
-// The settled leg at a place is removed: 60 the rules, 65 no settled leg there.
-pub fn clear(l: Ledger, place: usize) -> Outcome
-    ensures { result ≡ clear_of l place }
+// The ledger without the settled leg at a place, or 60 the rules, 65 no settled leg there.
+pub fn clear(l: Ledger, place: usize) -> Result<Ledger, Refusal>
+    ensures { Answers result (clear_of l place).refusal (clear_of l place).ledger }
 {
     if !obeys(l) {
-        return Outcome {
-            refusal: 60,
-            ledger: l,
-        };
+        return Err(Refusal::BadLedger);
     }
     if l.count as usize <= place {
-        return Outcome {
-            refusal: 65,
-            ledger: l,
-        };
+        return Err(Refusal::NoSettledLeg);
     }
     if is_open(l.legs[place].standing) {
-        return Outcome {
-            refusal: 65,
-            ledger: l,
-        };
+        return Err(Refusal::NoSettledLeg);
     }
     let m = close_up(l, place);
-    Outcome {
-        refusal: 0,
-        ledger: m,
-    }
+    Ok(m)
 }

@@ -7,13 +7,11 @@ use Rattle.address.specs.declared.Seq.{Seq}
 use Rattle.address.specs.declared.Address.{Address}
 use Rattle.ledger_answer.specs.declared.Reply.{Reply}
 use Rattle.ledger_answer.specs.declared.Reply.TheVariants.{Ack, Nak}
-use Rattle.ledger.specs.declared.Outcome.{Outcome}
-use Rattle.ledger_tick.specs.declared.Ticked.{Ticked}
+use Rattle.ledger.specs.Outcome.{Outcome}
 use Rattle.ledger_answer.specs.Answer.{answer_of}
-use Rattle.ledger_tick.specs.Tick.{tick_of}
+use Rattle.ledger_tick.specs.Tick.{Ticked, tick_of}
 use Rattle.ledger_clear.specs.Clear.{clear_of}
-use Rattle.ledger_accept.specs.declared.Added.{Added}
-use Rattle.ledger_accept.specs.Accept.{accept_of}
+use Rattle.ledger_accept.specs.Accept.{Added, accept_of}
 use Rattle.table_image.specs.Table.{table_of}
 use Rattle.ledger_image.specs.Ledger.{ledger_of, ledger_after}
 

@@ -20,13 +20,21 @@ pub fn pz_accept(
 ) -> u8
     ensures { (result ≡ (pz_accept ledger.old frame.now (record { 0 = arrival }) table.now ticks).refusal) × (added.new ≡ (pz_accept ledger.old frame.now (record { 0 = arrival }) table.now ticks).added) × (place.new ≡ (pz_accept ledger.old frame.now (record { 0 = arrival }) table.now ticks).place) × (ledger.new ≡ pz_accept_image ledger.old frame.now (record { 0 = arrival }) table.now ticks) }
 {
+    *added = 0;
+    *place = 0;
     let t = table_image::table_of(table);
     let l = ledger_image::ledger_of(ledger);
-    let after = ledger_accept::accept(l, frame, Port(arrival), t, ticks);
-    *added = after.added;
-    *place = after.place;
-    let m = after.ledger;
-    ledger_image::put_back(ledger, after.refusal, m, m.count)
+    match ledger_accept::accept(l, frame, Port(arrival), t, ticks) {
+        Ok(after) => {
+            *added = after.added;
+            ledger_image::put_back(ledger, after.ledger, after.ledger.count);
+            0
+        }
+        Err(fault) => {
+            *place = fault.place as u16;
+            fault.refusal.number()
+        }
+    }
 }
 
 // The reply that three numbers of a call stand for.
@@ -67,20 +75,29 @@ pub fn pz_answer(
         port: Port(to_port),
     };
     let reply = reply_of(nak, set, code);
-    let after = ledger_answer::answer(l, by, to, Seq(seq), reply);
-    let m = after.ledger;
-    ledger_image::put_back(ledger, after.refusal, m, l.count)
+    match ledger_answer::answer(l, by, to, Seq(seq), reply) {
+        Ok(m) => {
+            ledger_image::put_back(ledger, m, l.count);
+            0
+        }
+        Err(refusal) => refusal.number(),
+    }
 }
 
 // One tick for every leg; `ended` is how many timed out.
 pub fn pz_tick(ledger: &mut [u8], ended: &mut u8) -> u8
     ensures { (result ≡ (pz_tick ledger.old).refusal) × (ended.new ≡ (pz_tick ledger.old).ended) × (ledger.new ≡ pz_tick_image ledger.old) }
 {
+    *ended = 0;
     let l = ledger_image::ledger_of(ledger);
-    let after = ledger_tick::tick(l);
-    *ended = after.ended;
-    let m = after.ledger;
-    ledger_image::put_back(ledger, after.refusal, m, l.count)
+    match ledger_tick::tick(l) {
+        Ok(after) => {
+            *ended = after.ended;
+            ledger_image::put_back(ledger, after.ledger, l.count);
+            0
+        }
+        Err(refusal) => refusal.number(),
+    }
 }
 
 // Removes the settled leg at a place.
@@ -88,7 +105,11 @@ pub fn pz_clear(ledger: &mut [u8], place: usize) -> u8
     ensures { (result ≡ (pz_clear ledger.old place).refusal) × (ledger.new ≡ pz_clear_image ledger.old place) }
 {
     let l = ledger_image::ledger_of(ledger);
-    let after = ledger_clear::clear(l, place);
-    let m = after.ledger;
-    ledger_image::put_back(ledger, after.refusal, m, l.count)
+    match ledger_clear::clear(l, place) {
+        Ok(m) => {
+            ledger_image::put_back(ledger, m, l.count);
+            0
+        }
+        Err(refusal) => refusal.number(),
+    }
 }

@@ -18,13 +18,9 @@ fn put_legs(b: &mut [u8], l: Ledger, n: u8)
     }
 }
 
-// After a call that gave this number and this ledger: a refusal leaves the image, else the first n legs are written, at most 128. Gives the number.
-pub fn put_back(b: &mut [u8], refusal: u8, l: Ledger, n: u8) -> u8
-    ensures { (result ≡ refusal) × (b.new ≡ ledger_after b.old refusal l n) }
+// After a call that gave this ledger: its first n legs are written, at most 128. A refused call has nothing to put back.
+pub fn put_back(b: &mut [u8], l: Ledger, n: u8)
+    ensures { b.new ≡ ledger_after b.old 0 l n }
 {
-    if refusal != 0 {
-        return refusal;
-    }
     put_legs(b, l, n.min(MOST_LEGS));
-    0
 }

@@ -19,8 +19,7 @@ use Rattle.address.specs.declared.Seq.{Seq}
 use Rattle.address.specs.declared.Address.{Address}
 use Rattle.address.specs.Address.{in_range}
 use Rattle.envelope.specs.Frame.{destinations_offset, fields_of, destination_at}
-use Rattle.table.specs.declared.Choice.{Choice}
-use Rattle.table.specs.declared.Choice.TheVariants.{Local, Out, Refused}
+use Rattle.table.specs.Choice.{Choice, Local, Out, Refused}
 use Rattle.table.specs.declared.Table.{Table}
 use Rattle.table.specs.Table.{table_in_range, call_in_range, is_own, has_route, out_port, out_choice, choose_of, choice_refusal}
 use Rattle.ledger.specs.declared.Standing.TheVariants.{Open, Undeliverable, TimedOut, Waiting}

@@ -10,7 +10,7 @@ use Rattle.address.specs.declared.Address.{Address}
 use Rattle.address.specs.Address.{largest_port, in_range}
 use Rattle.envelope.specs.Frame.{destinations_offset, fields_of, destination_at}
 use Rattle.envelope.specs.Refusal.{stray_at, frame_refusal}
-use Rattle.table.specs.declared.Choice.TheVariants.{Refused as Unrouted}
+use Rattle.table.specs.Choice.{Refused as Unrouted}
 use Rattle.table.specs.declared.Table.{Table}
 use Rattle.table.specs.Table.{table_in_range, choose_of, choice_refusal}
 use Rattle.ledger.specs.declared.Standing.TheVariants.{Open, Acknowledged, Refused, Undeliverable, Waiting}

@@ -6,7 +6,6 @@ use Rattle.ledger.specs.declared.Standing.TheVariants.{TimedOut}
 use Rattle.ledger.specs.declared.Leg.{Leg}
 use Rattle.ledger.specs.declared.Ledger.{Ledger}
 use Rattle.ledger.specs.Rules.{with_standing, is_open, obeys}
-use Rattle.ledger_tick.specs.declared.Ticked.{Ticked}
 
 -- an open leg whose count comes to 0 in this tick
 unfoldable pub times_out : Leg → Bool
@@ -22,6 +21,12 @@ ticked_leg g =
 -- each leg of the ledger ticked, and the places past them as they were
 unfoldable pub ticked_ledger : Ledger → Ledger
 ticked_ledger l = record { count = l.count; legs = map ticked_leg (take l.count l.legs) ++ drop l.count l.legs }
+
+-- what tick comes to: the number, the ledger after it, and how many legs timed out in this tick
+pub record Ticked : Type 0 where
+  pub ledger : Ledger
+  pub refusal : ℕ
+  pub ended : ℕ
 
 -- 60 the rules
 unfoldable pub tick_refusal : Ledger → ℕ

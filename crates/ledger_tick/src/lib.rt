@@ -2,11 +2,13 @@
 #![tactic(auto)]
 
 ghost use Rattle.std.specs.Prelude.{◌≡◌, ◌≤◌};
+ghost use Rattle.refusal.specs.Numbers.{Answers};
 ghost use Rattle.ledger_tick.specs.Tick.{times_out, ticked_leg, tick_of};
 ghost use Rattle.ledger_tick.specs.Private.{ticked_first};
 ghost use Rattle.ledger.specs.Rules.{most_legs};
 
 use ledger::{Ledger, Leg, Standing, is_open, obeys, with_standing};
+use refusal::Refusal;
 
 // What a tick of the first legs gives: the legs, and how many timed out.
 #[derive(Clone, Copy)]
@@ -15,11 +17,10 @@ pub struct TickedLegs {
     pub ended: usize,
 }
 
-// What tick gives: the number, how many legs timed out in this tick, and the ledger after it.
+// What tick gives: the ledger after it, and how many legs timed out in this tick.
 #[derive(Clone, Copy)]
 pub struct Ticked {
     pub ledger: Ledger,
-    pub refusal: u8,
     pub ended: u8,
 }
 
@@ -69,21 +70,16 @@ fn tick_first(legs: [Leg; 128], n: usize) -> TickedLegs
 }
 
 // One tick for every leg: 60 the rules.
-pub fn tick(l: Ledger) -> Ticked
-    ensures { result ≡ tick_of l }
+pub fn tick(l: Ledger) -> Result<Ticked, Refusal>
+    ensures { Answers result (tick_of l).refusal (record { ledger = (tick_of l).ledger; ended = (tick_of l).ended }) }
 {
     if !obeys(l) {
-        return Ticked {
-            refusal: 60,
-            ended: 0,
-            ledger: l,
-        };
+        return Err(Refusal::BadLedger);
     }
     let t = tick_first(l.legs, l.count as usize);
     let legs = t.legs;
-    Ticked {
-        refusal: 0,
+    Ok(Ticked {
         ended: t.ended as u8,
         ledger: Ledger { legs, ..l },
-    }
+    })
 }

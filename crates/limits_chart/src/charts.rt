@@ -2,24 +2,21 @@
 ghost use Rattle.std.specs.Prelude.{◌≤◌};
 
 use address::{Address, Node, Port, Station};
-use buffer::Written;
 use chart::{BOTH_WAYS, Chart, ChartNode, Link, Links, Nodes, PLAIN};
-use chart_read::ChartRead;
 use limits_script::{answered, byte, bytes, taken};
-use std::io::Result;
+use refusal::{Fault, Refusal};
+use std::io;
 
 // The number, the place, and how many nodes.
-fn report(rt: &impl Print, read: ChartRead) -> Result<()> {
-    answered(
-        rt,
-        read.refusal,
-        read.place as u64,
-        read.chart.nodes.count as u64,
-    )
+fn report(rt: &impl Print, answer: Result<Chart, Fault>) -> io::Result<()> {
+    match answer {
+        Ok(c) => answered(rt, 0, 0, c.nodes.count as u64),
+        Err(fault) => answered(rt, fault.refusal.number(), fault.place as u64, 0),
+    }
 }
 
 // c length, then the chart's bytes: number, place, nodes
-pub fn read(rt: &impl Print, v: &[u16; 64]) -> Result<()> {
+pub fn read(rt: &impl Print, v: &[u16; 64]) -> io::Result<()> {
     let chart = bytes(v);
     let n = taken(v[0], &chart);
     report(rt, chart_read::read_chart(&chart[..n]))
@@ -87,13 +84,13 @@ pub fn put_built(out: &mut [u8; 2000], s: Shape) -> u16 {
 }
 
 // The chart in the first n of 2,000 bytes.
-fn read_start(chart: &[u8; 2000], n: u16) -> ChartRead {
+fn read_start(chart: &[u8; 2000], n: u16) -> Result<Chart, Fault> {
     let long = taken(n, chart);
     chart_read::read_chart(&chart[..long])
 }
 
 // What the built chart is read as.
-pub fn built(s: Shape) -> ChartRead {
+pub fn built(s: Shape) -> Result<Chart, Fault> {
     let mut chart = [b'a'; 2000];
     let n = put_built(&mut chart, s);
     read_start(&chart, n)
@@ -110,15 +107,15 @@ fn asked(v: &[u16; 64]) -> Shape {
 }
 
 // C nodes links label: number, place, nodes
-pub fn read_built(rt: &impl Print, v: &[u16; 64]) -> Result<()> {
+pub fn read_built(rt: &impl Print, v: &[u16; 64]) -> io::Result<()> {
     report(rt, built(asked(v)))
 }
 
 // What a writer answers: the number and how many bytes.
-fn report_written(rt: &impl Print, answer: Written) -> Result<()> {
+fn report_written(rt: &impl Print, answer: Result<usize, Refusal>) -> io::Result<()> {
     match answer {
-        Written::Wrote(n) => answered(rt, 0, n as u64, 0),
-        Written::Refused(k) => answered(rt, k, 0, 0),
+        Ok(n) => answered(rt, 0, n as u64, 0),
+        Err(refusal) => answered(rt, refusal.number(), 0, 0),
     }
 }
 
@@ -179,7 +176,7 @@ fn links(count: u16, a: Address, b: Address) -> Links {
 }
 
 // Writes a chart into a buffer of a length.
-fn put_into(rt: &impl Print, c: Chart, room: u16) -> Result<()> {
+fn put_into(rt: &impl Print, c: Chart, room: u16) -> io::Result<()> {
     let mut out = [0u8; 1113];
     let n = taken(room, &out);
     report_written(rt, chart_write::write_chart(c, &mut out[..n]))
@@ -187,7 +184,7 @@ fn put_into(rt: &impl Print, c: Chart, room: u16) -> Result<()> {
 
 // v nodes links label letter node a-node a-port b-node b-port to-node room: number, bytes, 0. The first node is 9/node and every other 9/20; every link is
 // from 9/a-node/a-port to 9/b-node/b-port; the question is from 9/node to 9/to-node.
-pub fn write(rt: &impl Print, v: &[u16; 64]) -> Result<()> {
+pub fn write(rt: &impl Print, v: &[u16; 64]) -> io::Result<()> {
     let c = Chart {
         nodes: nodes(v[0], node(v[4], v[2], v[3])),
         links: links(v[1], end(v[5], v[6]), end(v[7], v[8])),
@@ -198,7 +195,7 @@ pub fn write(rt: &impl Print, v: &[u16; 64]) -> Result<()> {
 }
 
 // d form direction links room: number, bytes, 0. The nodes are 9/1 and 9/20; every link is from 9/1/2 to 9/20/1, of this form and direction.
-pub fn write_directed(rt: &impl Print, v: &[u16; 64]) -> Result<()> {
+pub fn write_directed(rt: &impl Print, v: &[u16; 64]) -> io::Result<()> {
     let c = Chart {
         nodes: nodes(2, node(1, 0, 97)),
         links: links_of(byte(v[0]), byte(v[1]), v[2], end(1, 2), end(20, 1)),
@@ -218,15 +215,15 @@ fn counted(c: Chart, nodes: u16, links: u16) -> Chart {
 
 // The built chart as values, with the counts that were asked for.
 pub fn built_chart(s: Shape) -> Chart {
-    let read = built(Shape {
+    let answer = built(Shape {
         nodes: s.nodes.min(16),
         links: s.links.min(48),
         ..s
     });
-    counted(read.chart, s.nodes, s.links)
+    counted(answer.unwrap_or(chart::no_chart()), s.nodes, s.links)
 }
 
 // V nodes links label room: number, bytes, 0
-pub fn write_built(rt: &impl Print, v: &[u16; 64]) -> Result<()> {
+pub fn write_built(rt: &impl Print, v: &[u16; 64]) -> io::Result<()> {
     put_into(rt, built_chart(asked(v)), v[3])
 }

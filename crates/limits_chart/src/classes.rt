@@ -1,9 +1,10 @@
 // Messages passed over a chart of C, by tables that send everything out by one port.
 use crate::charts::{Shape, put_built, station};
 use address::{Address, Node, Port};
-use class::{Message, Passed, Sent};
+use class::{Message, Passed};
 use limits_script::{answered, byte, taken};
-use std::io::Result;
+use refusal::Fault;
+use std::io;
 use table::{Entry, Table, Target};
 
 // The table of 9/node with so many entries, each everything out by a port.
@@ -46,7 +47,13 @@ fn to(node: u16, port: u16) -> Address {
 }
 
 // What a message comes to over the chart in the first n of 2,000 bytes, by so many bytes of tables.
-fn passed(chart: &[u8; 2000], n: u16, tables: &[u8; 3200], size: u16, v: &[u16; 64]) -> Passed {
+fn passed(
+    chart: &[u8; 2000],
+    n: u16,
+    tables: &[u8; 3200],
+    size: u16,
+    v: &[u16; 64],
+) -> Result<Passed, Fault> {
     let long = taken(n, chart);
     let many = taken(size, tables);
     class::pass(
@@ -68,12 +75,15 @@ fn asked(v: &[u16; 64]) -> Shape {
 }
 
 // The number, how many nodes it passed, and how it ended.
-fn report(rt: &impl Print, p: Passed) -> Result<()> {
-    answered(rt, p.refusal, p.count as u64, p.ending as u64)
+fn report(rt: &impl Print, answer: Result<Passed, Fault>) -> io::Result<()> {
+    match answer {
+        Ok(p) => answered(rt, 0, p.count as u64, p.ending as u64),
+        Err(fault) => answered(rt, fault.refusal.number(), 0, 0),
+    }
 }
 
 // p nodes links bytes port place entries own from to-node to-port: number, nodes on the way, ending
-pub fn pass(rt: &impl Print, v: &[u16; 64]) -> Result<()> {
+pub fn pass(rt: &impl Print, v: &[u16; 64]) -> io::Result<()> {
     let mut chart = [b'a'; 2000];
     let n = put_built(&mut chart, asked(v));
     let mut tables = sending(v[3]);
@@ -82,19 +92,30 @@ pub fn pass(rt: &impl Print, v: &[u16; 64]) -> Result<()> {
 }
 
 // A message a step on, likewise.
-fn stepped(chart: &[u8; 2000], n: u16, tables: &[u8; 3200], node: u16, m: Message) -> Sent {
+fn stepped(
+    chart: &[u8; 2000],
+    n: u16,
+    tables: &[u8; 3200],
+    node: u16,
+    m: Message,
+) -> Result<Message, Fault> {
     let long = taken(n, chart);
     class::step(&chart[..long], tables, to(node, 1), m)
 }
 
-// The number, and the message's place and ending.
-fn report_step(rt: &impl Print, s: Sent) -> Result<()> {
-    let m = s.message;
-    answered(rt, s.refusal, m.at as u64, m.ending as u64)
+// The number, and the message's place and ending: beside a refusal as it was.
+fn report_step(rt: &impl Print, before: Message, answer: Result<Message, Fault>) -> io::Result<()> {
+    match answer {
+        Ok(m) => answered(rt, 0, m.at as u64, m.ending as u64),
+        Err(fault) => {
+            let number = fault.refusal.number();
+            answered(rt, number, before.at as u64, before.ending as u64)
+        }
+    }
 }
 
 // q nodes links port place arrival met ending to-node: number, place, ending after it
-pub fn step(rt: &impl Print, v: &[u16; 64]) -> Result<()> {
+pub fn step(rt: &impl Print, v: &[u16; 64]) -> io::Result<()> {
     let mut chart = [b'a'; 2000];
     let n = put_built(&mut chart, asked(v));
     let tables = sending(v[2]);
@@ -104,5 +125,5 @@ pub fn step(rt: &impl Print, v: &[u16; 64]) -> Result<()> {
         met: v[5],
         ending: byte(v[6]),
     };
-    report_step(rt, stepped(&chart, n, &tables, v[7], m))
+    report_step(rt, m, stepped(&chart, n, &tables, v[7], m))
 }

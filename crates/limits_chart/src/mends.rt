@@ -1,16 +1,20 @@
 // Damaged charts, mended.
 use crate::charts::{Shape, put_built};
-use chart_mend::Mended;
+use chart_mend::MendedSizes;
 use limits_script::{answered, bytes, taken};
-use std::io::Result;
+use refusal::Refusal;
+use std::io;
 
 // The number, how many bytes are kept, and how many listed.
-fn report(rt: &impl Print, m: Mended) -> Result<()> {
-    answered(rt, m.refusal, m.kept as u64, m.listed as u64)
+fn report(rt: &impl Print, answer: Result<MendedSizes, Refusal>) -> io::Result<()> {
+    match answer {
+        Ok(m) => answered(rt, 0, m.kept as u64, m.listed as u64),
+        Err(refusal) => answered(rt, refusal.number(), 0, 0),
+    }
 }
 
 // m length, then the chart's bytes: number, bytes kept, bytes listed
-pub fn mend(rt: &impl Print, v: &[u16; 64]) -> Result<()> {
+pub fn mend(rt: &impl Print, v: &[u16; 64]) -> io::Result<()> {
     let input = bytes(v);
     let n = taken(v[0], &input);
     let mut out = [0u8; 63];
@@ -25,7 +29,7 @@ fn put_start(input: &mut [u8; 65536], chart: &[u8; 2000], n: u16) {
 }
 
 // An input mended, into buffers of a length.
-fn mend_in(rt: &impl Print, input: &[u8], room: u16, list_room: u16) -> Result<()> {
+fn mend_in(rt: &impl Print, input: &[u8], room: u16, list_room: u16) -> io::Result<()> {
     let mut out = [0u8; 65536];
     let m = taken(room, &out);
     let mut list = [0u8; 65536];
@@ -34,7 +38,7 @@ fn mend_in(rt: &impl Print, input: &[u8], room: u16, list_room: u16) -> Result<(
 }
 
 // M nodes links label zeros room list: number, bytes kept, bytes listed
-pub fn mend_built(rt: &impl Print, v: &[u16; 64]) -> Result<()> {
+pub fn mend_built(rt: &impl Print, v: &[u16; 64]) -> io::Result<()> {
     let mut chart = [b'a'; 2000];
     let built = Shape {
         nodes: v[0],

@@ -1,21 +1,21 @@
 // The printed sheet: of bytes that are no chart, and of a chart with a thousand routes.
-use buffer::Written;
 use limits_script::{answered, taken};
-use std::io::Result;
+use refusal::Refusal;
+use std::io;
 
 // The number, the bytes written, and the fourth byte from their end.
-fn report(rt: &impl Print, answer: Written, text: &[u8; 65536]) -> Result<()> {
+fn report(rt: &impl Print, answer: Result<usize, Refusal>, text: &[u8; 65536]) -> io::Result<()> {
     match answer {
-        Written::Wrote(n) => {
+        Ok(n) => {
             let last = buffer::byte_at(text, n.saturating_sub(4));
             answered(rt, 0, n as u64, last as u64)
         }
-        Written::Refused(k) => answered(rt, k, 0, 0),
+        Err(refusal) => answered(rt, refusal.number(), 0, 0),
     }
 }
 
 // The sheet of an input, in a buffer of so many bytes.
-fn sheet_in(rt: &impl Print, input: &[u8], room: u16) -> Result<()> {
+fn sheet_in(rt: &impl Print, input: &[u8], room: u16) -> io::Result<()> {
     let mut text = [0u8; 65536];
     let m = taken(room, &text);
     let answer = sheet::write_sheet(input, &mut text[..m]);
@@ -23,7 +23,7 @@ fn sheet_in(rt: &impl Print, input: &[u8], room: u16) -> Result<()> {
 }
 
 // s size room: number, bytes, the fourth from the end. The input is so many bytes 0.
-pub fn zeros(rt: &impl Print, v: &[u16; 64]) -> Result<()> {
+pub fn zeros(rt: &impl Print, v: &[u16; 64]) -> io::Result<()> {
     let input = [0u8; 4100];
     let n = taken(v[0], &input);
     sheet_in(rt, &input[..n], v[1])
@@ -61,13 +61,13 @@ fn size(more: u16) -> u16 {
 }
 
 // The sheet of the first bytes of a chart.
-fn sheet_of(rt: &impl Print, chart: &[u8; 500], size: u16, room: u16) -> Result<()> {
+fn sheet_of(rt: &impl Print, chart: &[u8; 500], size: u16, room: u16) -> io::Result<()> {
     let n = taken(size, chart);
     sheet_in(rt, &chart[..n], room)
 }
 
 // S more room: number, bytes, the fourth from the end. The chart has 1,000 routes, or one more.
-pub fn thousand(rt: &impl Print, v: &[u16; 64]) -> Result<()> {
+pub fn thousand(rt: &impl Print, v: &[u16; 64]) -> io::Result<()> {
     let mut chart = [0u8; 500];
     put_chart(&mut chart, v[0]);
     sheet_of(rt, &chart, size(v[0]), v[1])

@@ -1,9 +1,9 @@
 // The routing table of a node, written from a chart.
 use crate::charts::{Shape, built, station};
 use limits_script::answered;
-use std::io::Result;
+use refusal::Refusal;
+use std::io;
 use table::{MOST_ENTRIES, Table};
-use table_write::TableWritten;
 
 // The out port of the last entry.
 fn last_port(t: Table) -> u64 {
@@ -15,21 +15,25 @@ fn last_port(t: Table) -> u64 {
 }
 
 // The number, how many entries, and the last one's port.
-fn report(rt: &impl Print, written: TableWritten) -> Result<()> {
-    let t = written.table;
-    answered(rt, written.refusal, t.count as u64, last_port(t))
+fn report(rt: &impl Print, answer: Result<Table, Refusal>) -> io::Result<()> {
+    match answer {
+        Ok(t) => answered(rt, 0, t.count as u64, last_port(t)),
+        Err(refusal) => answered(rt, refusal.number(), 0, 0),
+    }
+}
+
+// The table of 9/node, of the chart that is built, if it is one.
+fn written(s: Shape, node: u16) -> Result<Table, Refusal> {
+    table_write::write_table(built(s)?, station(node))
 }
 
 // T nodes links node: number, entries, the last entry's port
-pub fn write(rt: &impl Print, v: &[u16; 64]) -> Result<()> {
-    let read = built(Shape {
+pub fn write(rt: &impl Print, v: &[u16; 64]) -> io::Result<()> {
+    let s = Shape {
         nodes: v[0],
         links: v[1],
         label: 0,
         to: 1,
-    });
-    if read.refusal != 0 {
-        return answered(rt, read.refusal, 0, 0);
-    }
-    report(rt, table_write::write_table(read.chart, station(v[2])))
+    };
+    report(rt, written(s, v[2]))
 }

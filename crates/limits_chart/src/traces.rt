@@ -2,15 +2,15 @@
 use crate::charts::{Shape, built_chart};
 use chart::Chart;
 use limits_script::{answered, byte, taken};
-use route_search::Traced;
-use std::io::Result;
+use refusal::Refusal;
+use std::io;
 
 // The number, the route's length, and the buffer's first byte.
-fn report(rt: &impl Print, answer: Traced, buf: &[u8; 64]) -> Result<()> {
+fn report(rt: &impl Print, answer: Result<u8, Refusal>, buf: &[u8; 64]) -> io::Result<()> {
     let first = buf[0] as u64;
     match answer {
-        Traced::Route(n) => answered(rt, 0, n as u64, first),
-        Traced::Refused(k) => answered(rt, k, 0, first),
+        Ok(n) => answered(rt, 0, n as u64, first),
+        Err(refusal) => answered(rt, refusal.number(), 0, first),
     }
 }
 
@@ -25,7 +25,7 @@ fn asked_chart(v: &[u16; 64]) -> Chart {
 }
 
 // The first route, in a buffer of 99s of which so many bytes are lent.
-fn first_in(rt: &impl Print, c: Chart, room: u16) -> Result<()> {
+fn first_in(rt: &impl Print, c: Chart, room: u16) -> io::Result<()> {
     let mut buf = [99u8; 64];
     let n = taken(room, &buf);
     let answer = route_trace::first(c, &mut buf[..n]);
@@ -33,7 +33,7 @@ fn first_in(rt: &impl Print, c: Chart, room: u16) -> Result<()> {
 }
 
 // 1 nodes links to room: number, length, first byte
-pub fn first(rt: &impl Print, v: &[u16; 64]) -> Result<()> {
+pub fn first(rt: &impl Print, v: &[u16; 64]) -> io::Result<()> {
     first_in(rt, asked_chart(v), v[3])
 }
 
@@ -47,7 +47,7 @@ fn counting(begin: u16) -> [u8; 64] {
 }
 
 // The route after the given one, in a buffer that counts up.
-fn next_in(rt: &impl Print, c: Chart, given: u16, begin: u16, room: u16) -> Result<()> {
+fn next_in(rt: &impl Print, c: Chart, given: u16, begin: u16, room: u16) -> io::Result<()> {
     let mut buf = counting(begin);
     let n = taken(room, &buf);
     let answer = route_trace::next(c, &mut buf[..n], given as usize);
@@ -55,6 +55,6 @@ fn next_in(rt: &impl Print, c: Chart, given: u16, begin: u16, room: u16) -> Resu
 }
 
 // 2 nodes links to room given begin: number, length, first byte. The buffer holds begin, begin + 1 and so on.
-pub fn next(rt: &impl Print, v: &[u16; 64]) -> Result<()> {
+pub fn next(rt: &impl Print, v: &[u16; 64]) -> io::Result<()> {
     next_in(rt, asked_chart(v), v[4], v[5], v[3])
 }

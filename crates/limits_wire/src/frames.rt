@@ -1,11 +1,11 @@
 // Frames, written and read.
 use crate::answers::value;
 use address::{Address, Node, Port, Seq};
-use buffer::Written;
 use envelope::Fixed;
-use envelope_read::{Destinations, Read};
+use envelope_read::Destinations;
 use limits_script::{answered, byte, bytes, taken};
-use std::io::Result;
+use refusal::Refusal;
+use std::io;
 
 pub fn at(brigade: u16, node: u16, port: u16) -> Address {
     Address {
@@ -51,7 +51,7 @@ fn with_first(first: Address) -> [Address; 63] {
 }
 
 // Writes with contents of a length into a buffer of a length.
-fn written_into(e: Fixed, to: [Address; 63], length: u16, room: u16) -> Written {
+fn written_into(e: Fixed, to: [Address; 63], length: u16, room: u16) -> Result<usize, Refusal> {
     let contents = [0u8; 1024];
     let mut out = [0u8; 1222];
     let n = taken(length, &contents);
@@ -60,16 +60,16 @@ fn written_into(e: Fixed, to: [Address; 63], length: u16, room: u16) -> Written 
 }
 
 // What a writer answers: the number and how many bytes.
-fn report_written(rt: &impl Print, answer: Written) -> Result<()> {
+fn report_written(rt: &impl Print, answer: Result<usize, Refusal>) -> io::Result<()> {
     match answer {
-        Written::Wrote(n) => answered(rt, 0, n as u64, 0),
-        Written::Refused(k) => answered(rt, k, 0, 0),
+        Ok(n) => answered(rt, 0, n as u64, 0),
+        Err(refusal) => answered(rt, refusal.number(), 0, 0),
     }
 }
 
 // w destinations contents priority version type node port sequence to-node to-port room: number, bytes, 0. The destinations after the first are 9/21/1,
 // 9/22/1 and so on.
-pub fn write(rt: &impl Print, v: &[u16; 64]) -> Result<()> {
+pub fn write(rt: &impl Print, v: &[u16; 64]) -> io::Result<()> {
     report_written(
         rt,
         written_into(fixed(v), with_first(address(v, 8)), v[1], v[10]),
@@ -77,14 +77,14 @@ pub fn write(rt: &impl Print, v: &[u16; 64]) -> Result<()> {
 }
 
 // An address: brigade, node, port.
-fn print_address(rt: &impl Print, a: Address) -> Result<()> {
+fn print_address(rt: &impl Print, a: Address) -> io::Result<()> {
     value(rt, a.brigade as u64)?;
     value(rt, a.node.0 as u64)?;
     value(rt, a.port.0 as u64)
 }
 
 // The fixed fields, in the order in which they are declared.
-fn print_fields(rt: &impl Print, e: Fixed) -> Result<()> {
+fn print_fields(rt: &impl Print, e: Fixed) -> io::Result<()> {
     print_address(rt, e.source)?;
     value(rt, e.count as u64)?;
     value(rt, e.length as u64)?;
@@ -102,25 +102,26 @@ fn last(to: Destinations) -> Address {
 
 // What a frame is read as: the number, how many destinations, how many bytes of contents; of an envelope also its fixed fields and its last destination, of a
 // refused frame the place.
-fn report(rt: &impl Print, frame: &[u8]) -> Result<()> {
+fn report(rt: &impl Print, frame: &[u8]) -> io::Result<()> {
     let to = envelope_read::destinations_of(frame);
     let contents = envelope_read::contents_of(frame);
     match envelope_read::read_frame(frame) {
-        Read::Envelope(e) => {
+        Ok(e) => {
             answered(rt, 0, to.count as u64, contents.len() as u64)?;
             print_fields(rt, e)?;
             print_address(rt, last(to))
         }
-        Read::Refused(k, place) => {
-            answered(rt, k, to.count as u64, contents.len() as u64)?;
-            value(rt, place as u64)
+        Err(fault) => {
+            let number = fault.refusal.number();
+            answered(rt, number, to.count as u64, contents.len() as u64)?;
+            value(rt, fault.place as u64)
         }
     }
 }
 
 // f length, then the frame's bytes: number, destinations, contents; of a refused frame then the place; where the number is 0 then the source's brigade, node and port, count, length,
 // priority, version, ack, sequence number and type, and the last destination's brigade, node and port
-pub fn read(rt: &impl Print, v: &[u16; 64]) -> Result<()> {
+pub fn read(rt: &impl Print, v: &[u16; 64]) -> io::Result<()> {
     let frame = bytes(v);
     let n = taken(v[0], &frame);
     report(rt, &frame[..n])
@@ -147,12 +148,12 @@ pub fn written(
     let part = [0u8; 1024];
     let n = taken(contents, &part);
     let mut out = [0u8; 2000];
-    envelope_write::write_frame(e, places(), &part[..n], &mut out);
+    let _ = envelope_write::write_frame(e, places(), &part[..n], &mut out);
     out
 }
 
 // F destinations contents length ack sequence: as f. The frame is from 9/1/5.
-pub fn read_written(rt: &impl Print, v: &[u16; 64]) -> Result<()> {
+pub fn read_written(rt: &impl Print, v: &[u16; 64]) -> io::Result<()> {
     let frame = written(at(9, 1, 5), v[0], v[1], v[3] == 1, v[4]);
     let n = taken(v[2], &frame);
     report(rt, &frame[..n])

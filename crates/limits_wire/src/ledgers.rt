@@ -3,12 +3,13 @@ use crate::answers::value;
 use crate::frames::{address, at, written};
 use crate::tables::{entry, table};
 use address::{Address, Port, Seq};
-use ledger::{Ledger, Leg, Outcome, Standing};
+use ledger::{Ledger, Leg, Standing};
 use ledger_accept::Added;
 use ledger_answer::Reply;
 use ledger_tick::Ticked;
 use limits_script::{answered, byte, taken};
-use std::io::Result;
+use refusal::{Fault, Refusal};
+use std::io;
 use table::{Table, Target};
 
 // A standing by its number: 0 open, 1 acknowledged, 2 refused, 3 undeliverable, 4 timed out, else waiting.
@@ -82,18 +83,27 @@ fn standing_at(l: Ledger, place: usize) -> u64 {
 }
 
 // The standings of the legs from a place up to another.
-fn print_standings(rt: &impl Print, l: Ledger, from: u8, to: u8) -> Result<()> {
+fn print_standings(rt: &impl Print, l: Ledger, from: u8, to: u8) -> io::Result<()> {
     for i in from..to {
         value(rt, standing_at(l, i as usize))?;
     }
     Ok(())
 }
 
+// The ledger as it was.
+fn none_added(ledger: Ledger) -> Added {
+    Added { ledger, added: 0 }
+}
+
 // The number, how many legs were added, the last leg's ticks, and the standing of each that was added.
-fn report(rt: &impl Print, after: Added) -> Result<()> {
+fn report(rt: &impl Print, before: Ledger, answer: Result<Added, Fault>) -> io::Result<()> {
+    let (number, after) = match answer {
+        Ok(after) => (0, after),
+        Err(fault) => (fault.refusal.number(), none_added(before)),
+    };
     let l = after.ledger;
     let last = leg_at(l, 127 + l.count as usize);
-    answered(rt, after.refusal, after.added as u64, last.ticks as u64)?;
+    answered(rt, number, after.added as u64, last.ticks as u64)?;
     print_standings(rt, l, l.count.saturating_sub(after.added), l.count)
 }
 
@@ -105,7 +115,7 @@ fn accepted(
     arrival: u16,
     t: Table,
     ticks: u16,
-) -> Added {
+) -> Result<Added, Fault> {
     let n = taken(n, &frame);
     ledger_accept::accept(before, &frame[..n], Port(byte(arrival)), t, ticks)
 }
@@ -128,7 +138,7 @@ fn size(destinations: u16) -> u16 {
 // a ledger brigade node port to-node to-port frame-brigade frame-node frame-port destinations ack ticks arrival on own-node: number, legs added, the last
 // leg's ticks after it, then the standing of each leg added. The ledger's legs are from brigade/node/port to 9/to-node/to-port; the frame is from
 // frame-brigade/frame-node/frame-port with sequence number 7; the table has one entry, for everything.
-pub fn accept(rt: &impl Print, v: &[u16; 64]) -> Result<()> {
+pub fn accept(rt: &impl Print, v: &[u16; 64]) -> io::Result<()> {
     let before = ledger(v, at(v[5], v[6], v[7]), address(v, 8));
     let after = accepted(
         before,
@@ -138,22 +148,24 @@ pub fn accept(rt: &impl Print, v: &[u16; 64]) -> Result<()> {
         asked_table(v),
         v[15],
     );
-    report(rt, after)
+    report(rt, before, after)
 }
 
 // The number, how many legs timed out, and the first leg's ticks.
-fn report_tick(rt: &impl Print, after: Ticked) -> Result<()> {
-    let l = after.ledger;
-    let first = leg_at(l, 0);
-    answered(rt, after.refusal, after.ended as u64, first.ticks as u64)
+fn report_tick(rt: &impl Print, before: Ledger, answer: Result<Ticked, Refusal>) -> io::Result<()> {
+    match answer {
+        Ok(after) => {
+            let first = leg_at(after.ledger, 0);
+            answered(rt, 0, after.ended as u64, first.ticks as u64)
+        }
+        Err(refusal) => answered(rt, refusal.number(), 0, leg_at(before, 0).ticks as u64),
+    }
 }
 
 // l ledger node port to-node to-port: number, legs timed out, the first leg's ticks after it
-pub fn tick(rt: &impl Print, v: &[u16; 64]) -> Result<()> {
-    report_tick(
-        rt,
-        ledger_tick::tick(ledger(v, address(v, 5), address(v, 7))),
-    )
+pub fn tick(rt: &impl Print, v: &[u16; 64]) -> io::Result<()> {
+    let before = ledger(v, address(v, 5), address(v, 7));
+    report_tick(rt, before, ledger_tick::tick(before))
 }
 
 // An acknowledgement, or a refusal with its reason set and code.
@@ -170,20 +182,32 @@ fn asked_reply(v: &[u16; 64]) -> Reply {
     reply(v[10], v[11], v[12])
 }
 
+// The number, and the ledger after a call: beside a refusal as it was.
+fn outcome(before: Ledger, answer: Result<Ledger, Refusal>) -> (u8, Ledger) {
+    match answer {
+        Ok(after) => (0, after),
+        Err(refusal) => (refusal.number(), before),
+    }
+}
+
 // The number, and the first leg's standing and ticks.
-fn report_answer(rt: &impl Print, after: Outcome) -> Result<()> {
-    let l = after.ledger;
+fn report_answer(
+    rt: &impl Print,
+    before: Ledger,
+    answer: Result<Ledger, Refusal>,
+) -> io::Result<()> {
+    let (number, l) = outcome(before, answer);
     let first = leg_at(l, 0);
     answered(
         rt,
-        after.refusal,
+        number,
         standing_number(first.standing),
         first.ticks as u64,
     )
 }
 
 // n ledger by-node by-port to-node to-port sequence nak set code: number, the first leg's standing, its ticks after it. Its legs are from 9/1/5 to 9/20/1.
-pub fn answer(rt: &impl Print, v: &[u16; 64]) -> Result<()> {
+pub fn answer(rt: &impl Print, v: &[u16; 64]) -> io::Result<()> {
     let before = ledger(v, at(9, 1, 5), at(9, 20, 1));
     let after = ledger_answer::answer(
         before,
@@ -192,22 +216,21 @@ pub fn answer(rt: &impl Print, v: &[u16; 64]) -> Result<()> {
         Seq(v[9]),
         asked_reply(v),
     );
-    report_answer(rt, after)
+    report_answer(rt, before, after)
 }
 
 // The number, how many legs, and the first leg's sequence number.
-fn report_clear(rt: &impl Print, after: Outcome) -> Result<()> {
-    let l = after.ledger;
-    let first = leg_at(l, 0);
-    answered(rt, after.refusal, l.count as u64, first.seq.0 as u64)
-}
-
-// The ledger with the leg at a place cleared.
-fn cleared(before: Ledger, place: u16) -> Outcome {
-    ledger_clear::clear(before, place as usize)
+fn report_clear(
+    rt: &impl Print,
+    before: Ledger,
+    answer: Result<Ledger, Refusal>,
+) -> io::Result<()> {
+    let (number, l) = outcome(before, answer);
+    answered(rt, number, l.count as u64, leg_at(l, 0).seq.0 as u64)
 }
 
 // k ledger place: number, legs left, the first leg's sequence number
-pub fn clear(rt: &impl Print, v: &[u16; 64]) -> Result<()> {
-    report_clear(rt, cleared(ledger(v, at(9, 1, 5), at(9, 20, 1)), v[5]))
+pub fn clear(rt: &impl Print, v: &[u16; 64]) -> io::Result<()> {
+    let before = ledger(v, at(9, 1, 5), at(9, 20, 1));
+    report_clear(rt, before, ledger_clear::clear(before, v[5] as usize))
 }

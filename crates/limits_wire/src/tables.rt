@@ -2,7 +2,8 @@
 use crate::frames::at;
 use address::{Node, Port};
 use limits_script::{answered, byte};
-use std::io::Result;
+use refusal::Refusal;
+use std::io;
 use table::{Choice, Entry, Table, Target};
 
 // What an entry of brigade 9 is for: 0 a node, 1 the brigade, else everything.
@@ -41,11 +42,11 @@ pub fn entry(target: Target, port: u16, on: u16) -> Entry {
 }
 
 // The number, 1 where it is local, and the port.
-fn report(rt: &impl Print, choice: Choice) -> Result<()> {
+fn report(rt: &impl Print, choice: Result<Choice, Refusal>) -> io::Result<()> {
     match choice {
-        Choice::Local(p) => answered(rt, 0, 1, p.0 as u64),
-        Choice::Out(p) => answered(rt, 0, 0, p.0 as u64),
-        Choice::Refused(k) => answered(rt, k, 0, 0),
+        Ok(Choice::Local(p)) => answered(rt, 0, 1, p.0 as u64),
+        Ok(Choice::Out(p)) => answered(rt, 0, 0, p.0 as u64),
+        Err(refusal) => answered(rt, refusal.number(), 0, 0),
     }
 }
 
@@ -55,7 +56,7 @@ fn asked_table(v: &[u16; 64]) -> Table {
 }
 
 // t own-node entries place kind entry-node out-port on to-brigade to-node to-port arrival: number, 1 where local, port
-pub fn choose(rt: &impl Print, v: &[u16; 64]) -> Result<()> {
+pub fn choose(rt: &impl Print, v: &[u16; 64]) -> io::Result<()> {
     let to = at(v[7], v[8], v[9]);
     let arrival = Port(byte(v[10]));
     report(rt, table::choose(asked_table(v), to, arrival))

@@ -1,21 +1,27 @@
 -- What C gets of pz_first and pz_next, from what the reader and the trace give.
-use Prim.Native.Nat.{ℕ}
-use mathlib.Core.Path.{◌≡◌, sym, ap, ◌∙◌}
+use Prim.Native.Nat.{ℕ, zero, suc}
+use mathlib.Core.Path.{◌≡◌, sym, ap, subst, ◌∙◌}
+use native.Mathlib.Omega.{arith}
 use mathlib.Core.List.{List}
 use native.Mathlib.Nat.{le_refl}
 use lib.ListN.{length}
 use Rattle.buffer.specs.Bytes.{Bytes}
 use Rattle.lists.specs.Refusals.{unless_refused}
 use Rattle.lists.proofs.Refusals.{taken, refused}
-use Rattle.chart_read.specs.declared.ChartRead.{ChartRead}
+use Rattle.chart.specs.declared.Chart.{Chart}
+use Rattle.std.specs.Prelude.{Result, Ok, Err}
+use Rattle.refusal.specs.declared.Refusal.{Refusal}
+use Rattle.refusal.specs.declared.Fault.{Fault}
+use Rattle.refusal.specs.Numbers.{number, Answers, AnswersAt}
+use Rattle.refusal.proofs.Laws.{names}
 use Rattle.chart_read.specs.Reading.{read_chart_of}
-use Rattle.route_search.specs.declared.Traced.{Traced}
-use Rattle.route_search.specs.declared.Traced.TheVariants.{Refused}
-use Rattle.route_search.specs.Answers.{Told}
+use Rattle.route_search.specs.Answers.{Route, Refused, Told, told, first_route, next_route}
+use Rattle.route_search.proofs.Telling.{Promised}
+use Rattle.chart_net.specs.Private.{array_routes}
 use Rattle.chart_refuse.specs.Refusal.{chart_refusal}
 use Rattle.chart_write.proofs.Promises.{write_undoes_read}
-use Rattle.route_trace.specs.Trace.{one_number, trace_first, trace_next}
-use Rattle.route_trace.specs.Private.{first_known, next_known}
+use Rattle.route_trace.specs.Trace.{traced, one_number, trace_first, trace_next}
+use Rattle.route_trace.specs.Private.{first_known_refusal, next_known_refusal}
 use Rattle.route_trace.proofs.Laws.{first-known, next_known-trace}
 use Rattle.route_first_door.specs.Routes.{if_read, pz_first, pz_next}
 
@@ -27,39 +33,51 @@ Gives t k o = (k ≡ one_number t.answer) × (o ≡ t.bytes)
 pub right : (bytes : List ℕ) → Bytes bytes → (read_chart_of bytes).refusal ≡ 0 → chart_refusal (read_chart_of bytes).chart ≡ 0
 right bytes b z = (write_undoes_read bytes b z bytes (le_refl (length bytes))).refusal
 
-module _ (bytes buf : List ℕ) {r : ChartRead} (g : r ≡ read_chart_of bytes) where
-  refusal : r.refusal ≡ (read_chart_of bytes).refusal
-  refusal = ap (λ (x : ChartRead). x.refusal) g
+-- an answer is what is told
+traced-told : (n : ℕ) (r buf : List ℕ) (x : Result ℕ Refusal) → Answers x n (length r) → traced x ≡ (told n r buf).answer
+unfolding told unless_refused
+traced-told zero r buf (Ok k) h = ap Route h.1
+traced-told (suc n) r buf (Ok k) h = absurd (omega (arith, h.0))
+traced-told zero r buf (Err e) h = absurd (names.none_zero e h)
+traced-told (suc n) r buf (Err e) h = ap Refused h
 
-  unread : (t : Told) → (r.refusal ≡ 0 → ⊥) → Gives (if_read bytes buf t) r.refusal buf
+-- what the reader gives
+abbrev pub Reads : List ℕ → Result Chart Fault → Type 0
+Reads bytes x = AnswersAt x (read_chart_of bytes).refusal (read_chart_of bytes).place (read_chart_of bytes).chart
+
+module _ (bytes buf : List ℕ) where
+  unread : (t : Told) (f : Fault) → Reads bytes (Err f) → Gives (if_read bytes buf t) (number f.refusal) buf
   unfolding if_read
-  unread t h =
+  unread t f h =
       let e : unless_refused (read_chart_of bytes).refusal t (record { answer = Refused (read_chart_of bytes).refusal; bytes = buf }) ≡ record { answer = Refused (read_chart_of bytes).refusal; bytes = buf } =
-      refused t _ (read_chart_of bytes).refusal (λ z. h (refusal ∙ z)) in
-      (refusal ∙ ap (λ (x : Told). one_number x.answer) (sym e), ap (λ (x : Told). x.bytes) (sym e))
+      refused t _ (read_chart_of bytes).refusal (λ z. names.none_zero f.refusal (h.0 ∙ z)) in
+      (h.0 ∙ ap (λ (x : Told). one_number x.answer) (sym e), ap (λ (x : Told). x.bytes) (sym e))
 
-  read : (t : Told) → r.refusal ≡ 0 → {a : Traced} {k : ℕ} {o : List ℕ} → k ≡ one_number a → a ≡ t.answer → o ≡ t.bytes → Gives (if_read bytes buf t) k o
+  read : (t : Told) → (read_chart_of bytes).refusal ≡ 0 → {k : ℕ} {o : List ℕ} → k ≡ one_number t.answer → o ≡ t.bytes → Gives (if_read bytes buf t) k o
   unfolding if_read
-  read t z p q s =
-      let e = taken t (record { answer = Refused (read_chart_of bytes).refusal; bytes = buf }) (sym refusal ∙ z) in
-      (p ∙ ap one_number (q ∙ ap (λ (x : Told). x.answer) (sym e)), s ∙ ap (λ (x : Told). x.bytes) (sym e))
+  read t z p s =
+      let e = taken t (record { answer = Refused (read_chart_of bytes).refusal; bytes = buf }) z in
+      (p ∙ ap (λ (x : Told). one_number x.answer) (sym e), s ∙ ap (λ (x : Told). x.bytes) (sym e))
 
-  pub first-unread : (r.refusal ≡ 0 → ⊥) → Gives (pz_first bytes buf) r.refusal buf
+  pub first-unread : (f : Fault) → Reads bytes (Err f) → Gives (pz_first bytes buf) (number f.refusal) buf
   unfolding pz_first
-  first-unread h = unread (trace_first (read_chart_of bytes).chart buf) h
+  first-unread f h = unread (trace_first (read_chart_of bytes).chart buf) f h
 
-  pub next-unread : (n : ℕ) → (r.refusal ≡ 0 → ⊥) → Gives (pz_next bytes buf n) r.refusal buf
+  pub next-unread : (n : ℕ) (f : Fault) → Reads bytes (Err f) → Gives (pz_next bytes buf n) (number f.refusal) buf
   unfolding pz_next
-  next-unread n h = unread (trace_next (read_chart_of bytes).chart buf n) h
+  next-unread n f h = unread (trace_next (read_chart_of bytes).chart buf n) f h
 
-  pub first_read : Bytes bytes → r.refusal ≡ 0 → {a : Traced} {k : ℕ} {o : List ℕ} → k ≡ one_number a → a ≡ (first_known r.chart buf).answer → o ≡ (first_known r.chart buf).bytes → Gives (pz_first bytes buf) k o
-  unfolding pz_first
-  first_read b z p q s =
-      let e = ap (λ (x : ChartRead). first_known x.chart buf) g ∙ first-known (read_chart_of bytes).chart (right bytes b (sym refusal ∙ z)) buf in
-      read (trace_first (read_chart_of bytes).chart buf) z p (q ∙ ap (λ (x : Told). x.answer) e) (s ∙ ap (λ (x : Told). x.bytes) e)
+  module _ (b : Bytes bytes) (c : Chart) (h : Reads bytes (Ok c)) {x : Result ℕ Refusal} {k : ℕ} {o : List ℕ} (p : k ≡ one_number (traced x)) where
+    pub first_read : Promised (first_known_refusal c buf) (first_route (array_routes c)) buf x o → Gives (pz_first bytes buf) k o
+    unfolding pz_first trace_first
+    first_read w =
+        let v = (read_chart_of bytes).chart in
+        let q = first-known v (right bytes b h.0) buf (subst (λ (y : Chart). Promised (first_known_refusal y buf) (first_route (array_routes y)) buf x o) h.1.1 w) in
+        read (trace_first v buf) h.0 (p ∙ ap one_number (traced-told _ _ buf x q.value)) q.bytes
 
-  pub next-read : Bytes bytes → (n : ℕ) → r.refusal ≡ 0 → {a : Traced} {k : ℕ} {o : List ℕ} → k ≡ one_number a → a ≡ (next_known r.chart buf n).answer → o ≡ (next_known r.chart buf n).bytes → Gives (pz_next bytes buf n) k o
-  unfolding pz_next
-  next-read b n z p q s =
-      let e = ap (λ (x : ChartRead). next_known x.chart buf n) g ∙ next_known-trace (read_chart_of bytes).chart (right bytes b (sym refusal ∙ z)) buf n in
-      read (trace_next (read_chart_of bytes).chart buf n) z p (q ∙ ap (λ (x : Told). x.answer) e) (s ∙ ap (λ (x : Told). x.bytes) e)
+    pub next-read : (n : ℕ) → Promised (next_known_refusal c buf n) (next_route (array_routes c) buf n) buf x o → Gives (pz_next bytes buf n) k o
+    unfolding pz_next trace_next
+    next-read n w =
+        let v = (read_chart_of bytes).chart in
+        let q = next_known-trace v (right bytes b h.0) buf n (subst (λ (y : Chart). Promised (next_known_refusal y buf n) (next_route (array_routes y) buf n) buf x o) h.1.1 w) in
+        read (trace_next v buf n) h.0 (p ∙ ap one_number (traced-told _ _ buf x q.value)) q.bytes

@@ -17,9 +17,7 @@ use Rattle.chart.specs.declared.Chart.{Chart}
 use Rattle.chart_read.specs.Reading.{read_chart_of}
 use Rattle.chart_refuse.specs.Refusal.{chart_refusal}
 use Rattle.chart_write.proofs.Numbers.{reader-numbers}
-use Rattle.route_search.specs.declared.Traced.{Traced}
-use Rattle.route_search.specs.declared.Traced.TheVariants.{Route, Refused}
-use Rattle.route_search.specs.Answers.{Told}
+use Rattle.route_search.specs.Answers.{Traced, Route, Refused, Told}
 use Rattle.chart_net.specs.Net.{routes_of}
 use Rattle.route_trace.specs.Trace.{one_number, trace_first, trace_next}
 use Rattle.route_trace.specs.Promises.{GoesThrough}

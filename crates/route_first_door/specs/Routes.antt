@@ -2,8 +2,7 @@
 use Rattle.std.specs.Prelude.{ℕ, List}
 use Rattle.lists.specs.Refusals.{unless_refused}
 use Rattle.chart_read.specs.Reading.{read_chart_of}
-use Rattle.route_search.specs.declared.Traced.TheVariants.{Refused}
-use Rattle.route_search.specs.Answers.{Told}
+use Rattle.route_search.specs.Answers.{Refused, Told}
 use Rattle.route_trace.specs.Trace.{one_number, trace_first, trace_next}
 
 -- a chart that the reader refuses leaves the buffer as it was

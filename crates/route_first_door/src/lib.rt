@@ -8,9 +8,8 @@ ghost use Rattle.route_first_door.specs.Routes.{pz_first_number, pz_first_buffer
 pub fn pz_first(chart: &[u8], route: &mut [u8], length: usize) -> u8
     ensures { (result ≡ pz_first_number chart.now route.old) × (route.new ≡ pz_first_buffer chart.now route.old) }
 {
-    let read = chart_read::read_chart(chart);
-    if read.refusal != 0 {
-        return read.refusal;
+    match chart_read::read_chart(chart) {
+        Ok(c) => route_trace::one_number(route_trace::first_known(c, route)),
+        Err(fault) => fault.refusal.number(),
     }
-    route_trace::one_number(route_trace::first_known(read.chart, route))
 }

@@ -20,27 +20,32 @@ use Rattle.route_ahead.proofs.Going.{some-reached, unreached}
 use Rattle.route_search.specs.Answers.{finding_refusal}
 use Rattle.route_search.specs.Private.{routes_over}
 use Rattle.route_search.proofs.Telling.{too_many, no_place, places-right}
+use Rattle.std.specs.Prelude.{Result, Ok, Err}
+use Rattle.refusal.specs.declared.Refusal.{Refusal}
+use Rattle.refusal.specs.declared.Refusal.TheVariants.{ChartCrowd, ChartStranger, NoRouteRoom, NoRoute}
+use Rattle.refusal.specs.Numbers.{number, Answers}
+use Rattle.refusal.proofs.Laws.{names}
 use Rattle.route_list.specs.declared.Listed.{Listed}
-use Rattle.route_list.specs.Listing.{slots_of, slot_room, list_refusal, list_count, list_more, list_answer, list_after}
+use Rattle.route_list.specs.Listing.{slots_of, slot_room, list_refusal, list_count, list_more, list_answer, list_after, listing_of}
 use Rattle.route_list.specs.Private.{list_refusal_over, Slots, stow_all, paths_on}
 use Rattle.route_list.proofs.Slots.{Short, short-take, length-slots, all_short}
 use Rattle.route_list.proofs.Stowing.{room-least, stow-all}
 use Rattle.route_list.proofs.Turns.{start-paths}
 
 -- what is promised of the answer and the bytes after it, where the refusal is k
-abbrev pub Gives : ℕ → List (List ℕ) → List ℕ → Listed → List ℕ → Type 0
-Gives k rs buf r after = (r ≡ list_answer k rs (length buf)) × (after ≡ list_after k rs buf)
+abbrev pub Gives : ℕ → List (List ℕ) → List ℕ → Result Listed Refusal → List ℕ → Type 0
+Gives k rs buf r after = Answers r k (listing_of (list_answer k rs (length buf))) × (after ≡ list_after k rs buf)
 
 -- a refusal changes nothing
-pub refusing : (refusal k : ℕ) (rs : List (List ℕ)) (buf : List ℕ) → refusal ≡ suc k → {r : Listed} → r ≡ record { refusal = suc k; count = 0; more = false }
-    → Gives refusal rs buf r buf
-unfolding list_answer list_count list_more list_after unless_refused
-refusing refusal k rs buf e q = rw e (q, refl)
+pub refusing : (refusal : ℕ) (r : Refusal) (rs : List (List ℕ)) (buf : List ℕ) → refusal ≡ number r → Gives refusal rs buf (Err r) buf
+unfolding list_after unless_refused
+refusing zero r rs buf e = absurd (names.none_zero r (sym e))
+refusing (suc k) r rs buf e = (sym e, refl)
 
 pub accepting : (refusal : ℕ) (rs : List (List ℕ)) (buf after : List ℕ) (room n : ℕ) (more : Bool) → refusal ≡ 0 → room ≡ slot_room (length buf) → length (take room rs) ≡ n
-    → ltb room (length rs) ≡ more → after ≡ slots_of (take room rs) ++ drop (length (slots_of (take room rs))) buf → Gives refusal rs buf (record { refusal = 0; count = n; more = more }) after
+    → ltb room (length rs) ≡ more → after ≡ slots_of (take room rs) ++ drop (length (slots_of (take room rs))) buf → Gives refusal rs buf (Ok (record { count = n; more = more })) after
 unfolding list_answer list_count list_more list_after unless_refused
-accepting refusal rs buf after room n more e q c m w = rw (e, ← q) (λ i. record { refusal = 0; count = sym c i; more = sym m i }, w)
+accepting refusal rs buf after room n more e q c m w = rw (e, ← q) ((refl, λ i. record { count = sym c i; more = sym m i }), w)
 
 -- ---- the numbers
 
@@ -124,7 +129,7 @@ module _ (rs : List (List ℕ)) (s : Short rs) (buf : List ℕ) (room : ℕ) (q 
     follow true h = let l = ltb-true room z.count h in let c = counted in lt-ltb room (length rs) (omega arith)
     follow false h = let l = ltb-false room z.count h in let c = counted in le-ltb room (length rs) (omega arith)
 
-    told : 0 < length rs → Gives (list_refusal rs (length buf)) rs buf (record { refusal = 0; count = min z.count room; more = ltb room z.count }) (z.bytes ++ drop (16 * room) buf)
+    told : 0 < length rs → Gives (list_refusal rs (length buf)) rs buf (Ok (record { count = min z.count room; more = ltb room z.count })) (z.bytes ++ drop (16 * room) buf)
     told ne =
         let c = counted in
         let l : length (take room rs) ≡ min z.count room = omega (arith, length-take room rs) in
@@ -133,38 +138,37 @@ module _ (rs : List (List ℕ)) (s : Short rs) (buf : List ℕ) (room : ℕ) (q 
 -- ---- the list over the arrays: each way that the code returns
 
 module _ (ends : List (List ℕ)) (ways : List ℕ) (links from to : ℕ) (buf : List ℕ) where
-  abbrev pub Lists : Listed → List ℕ → Type 0
+  abbrev pub Lists : Result Listed Refusal → List ℕ → Type 0
   Lists r after = Gives (list_refusal_over ends ways links from to (length buf)) (routes_over ends ways links from to) buf r after
 
   -- 26 and 28 come before all others
-  pub list-many : 48 < links → {r : Listed} → r ≡ record { refusal = 26; count = 0; more = false } → Lists r buf
+  pub list-many : 48 < links → Lists (Err ChartCrowd) buf
   unfolding list_refusal_over
-  list-many h q = refusing (list_refusal_over ends ways links from to (length buf)) 25 (routes_over ends ways links from to) buf (rw (too_many links from h)) q
+  list-many h = refusing (list_refusal_over ends ways links from to (length buf)) ChartCrowd (routes_over ends ways links from to) buf (rw (too_many links from h))
 
-  pub list-placeless : links ≤ 48 → 16 ≤ from → {r : Listed} → r ≡ record { refusal = 28; count = 0; more = false } → Lists r buf
+  pub list-placeless : links ≤ 48 → 16 ≤ from → Lists (Err ChartStranger) buf
   unfolding list_refusal_over
-  list-placeless h k q = refusing (list_refusal_over ends ways links from to (length buf)) 27 (routes_over ends ways links from to) buf (rw (no_place links from h k)) q
+  list-placeless h k = refusing (list_refusal_over ends ways links from to (length buf)) ChartStranger (routes_over ends ways links from to) buf (rw (no_place links from h k))
 
   module _ (few : links ≤ 48) (inside : from < 16) where
     numbered : list_refusal (routes_over ends ways links from to) (length buf) ≡ list_refusal_over ends ways links from to (length buf)
     unfolding list_refusal_over
     numbered = rw (places-right links from few inside)
 
-    pub list-roomless : (room : ℕ) → room ≡ slot_room (length buf) → room ≡ 0 → {r : Listed} → r ≡ record { refusal = 42; count = 0; more = false } → Lists r buf
-    list-roomless room e z q =
-        refusing (list_refusal_over ends ways links from to (length buf)) 41 (routes_over ends ways links from to) buf
-        (sym numbered ∙ refusal-short (routes_over ends ways links from to) (length buf) (room-none (length buf) (sym e ∙ z))) q
+    pub list-roomless : (room : ℕ) → room ≡ slot_room (length buf) → room ≡ 0 → Lists (Err NoRouteRoom) buf
+    list-roomless room e z =
+        refusing (list_refusal_over ends ways links from to (length buf)) NoRouteRoom (routes_over ends ways links from to) buf
+        (sym numbered ∙ refusal-short (routes_over ends ways links from to) (length buf) (room-none (length buf) (sym e ∙ z)))
 
     -- no route leads from there
     pub list-nowhere : (room : ℕ) → room ≡ slot_room (length buf) → (room ≡ 0 → ⊥) → (t : List ℕ) → ByNode (net ends ways links to) t
-        → (answer : Bool) → Reaches t from answer → answer ≡ false → {r : Listed} → r ≡ record { refusal = 43; count = 0; more = false } → Lists r buf
+        → (answer : Bool) → Reaches t from answer → answer ≡ false → Lists (Err NoRoute) buf
     unfolding routes_over
-    list-nowhere room e some t b answer R off q =
-        refusing (list_refusal_over ends ways links from to (length buf)) 42 rs₀ buf
+    list-nowhere room e some t b answer R off =
+        refusing (list_refusal_over ends ways links from to (length buf)) NoRoute rs₀ buf
         (sym numbered
         ∙ refusal-none rs₀ (length buf) (enough rs₀ (all_short (net ends ways links to) from (omega arith) inside) buf room e some)
         (ap length (sym (H.same from inside) ∙ unreached t from answer R H.walkable inside off)))
-        q
       where
         rs₀ : List (List ℕ)
         rs₀ = routes_over ends ways links from to
@@ -186,13 +190,13 @@ module _ (ends : List (List ℕ)) (ways : List ℕ) (links from to : ℕ) (buf :
       unfolding routes_over
       walked = w ∙ ap (stow_all (record { bytes = take (16 * room) buf; count = 0 })) (start-paths t from ∙ (table-holds ends ways links to t b).same from inside)
 
-      over : {r : Listed} → Gives (list_refusal (routes_over ends ways links from to) (length buf)) (routes_over ends ways links from to) buf r (z.bytes ++ drop (16 * room) buf) → Lists r (z.bytes ++ drop (16 * room) buf)
-      over {r} g = subst (λ (k : ℕ). Gives k rs buf r (z.bytes ++ drop (16 * room) buf)) numbered g
+      over : (r : Result Listed Refusal) → Gives (list_refusal (routes_over ends ways links from to) (length buf)) (routes_over ends ways links from to) buf r (z.bytes ++ drop (16 * room) buf) → Lists r (z.bytes ++ drop (16 * room) buf)
+      over r g = subst (λ (k : ℕ). Gives k rs buf r (z.bytes ++ drop (16 * room) buf)) numbered g
 
       pub lists : (answer : Bool) → Reaches t from answer → answer ≡ true
-          → Lists (record { refusal = 0; count = min z.count room; more = ltb room z.count }) (z.bytes ++ drop (16 * room) buf)
+          → Lists (Ok (record { count = min z.count room; more = ltb room z.count })) (z.bytes ++ drop (16 * room) buf)
       unfolding routes_over
-      lists answer R e = over (told rs short buf room q some z walked (some-routes rs (λ k. some-reached t from answer R H.walkable inside e (H.same from inside ∙ k))))
+      lists answer R e = over (Ok (record { count = min z.count room; more = ltb room z.count })) (told rs short buf room q some z walked (some-routes rs (λ k. some-reached t from answer R H.walkable inside e (H.same from inside ∙ k))))
         where
           H : Holds (net ends ways links to) t
           H = table-holds ends ways links to t b

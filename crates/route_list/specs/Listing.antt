@@ -4,7 +4,7 @@ use Rattle.lists.specs.Refusals.{refuse, unless_refused}
 use Rattle.buffer.specs.Writing.{lent_after}
 use Rattle.route.specs.All.{first_of}
 use Rattle.route_search.specs.Answers.{longest_route, finding_refusal}
-use Rattle.route_list.specs.declared.Listed.{Listed}
+use Rattle.route_list.specs.declared.Listed as code
 
 abbrev pub slot_size : ℕ
 slot_size = 16
@@ -40,6 +40,16 @@ list_count k rs n = unless_refused k (length (listed_of rs n)) 0
 
 unfoldable pub list_more : ℕ → List (List ℕ) → ℕ → Bool
 list_more k rs n = unless_refused k (ltb (slot_room n) (length rs)) false
+
+-- how many routes were listed, and whether others follow; or the number of a refusal
+pub record Listed : Type 0 where
+  pub refusal : ℕ
+  pub count : ℕ
+  pub more : Bool
+
+-- what is answered where nothing is refused
+abbrev pub listing_of : Listed → code.Listed
+listing_of l = record { count = l.count; more = l.more }
 
 -- the answer with the refusal k, and the bytes after it
 unfoldable pub list_answer : ℕ → List (List ℕ) → ℕ → Listed

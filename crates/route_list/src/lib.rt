@@ -1,12 +1,14 @@
 // The lister (document 02, Ten): all routes in one walk over the links kept beside their nodes, each in a slot of a lent buffer.
 #![tactic(auto)]
 
-ghost use Rattle.std.specs.Prelude.{◌≡◌, false, length};
+ghost use Rattle.std.specs.Prelude.{◌≡◌, length};
+ghost use Rattle.refusal.specs.Numbers.{Answers};
 ghost use Rattle.route_search.specs.Private.{routes_over};
-ghost use Rattle.route_list.specs.Listing.{slot_room, list_answer, list_after};
+ghost use Rattle.route_list.specs.Listing.{slot_room, list_answer, list_after, listing_of};
 ghost use Rattle.route_list.specs.Private.{list_refusal_over};
 
 use chart::{MOST_LINKS, MOST_NODES};
+use refusal::Refusal;
 use route_ahead::reaches;
 use route_links::links_by_node;
 use walking::walk_on;
@@ -17,23 +19,11 @@ pub const SLOT_SIZE: usize = 16;
 
 pub const MOST_SLOTS: usize = 4095;
 
-// How many routes were listed, and whether others follow; or the number of a refusal.
+// How many routes were listed, and whether others follow.
 #[derive(Clone, Copy)]
 pub struct Listed {
-    pub refusal: u8,
     pub count: usize,
     pub more: bool,
-}
-
-// A refusal.
-fn refused(refusal: u8) -> Listed
-    ensures { result ≡ record { refusal = refusal; count = 0; more = false } }
-{
-    Listed {
-        refusal,
-        count: 0,
-        more: false,
-    }
 }
 
 // The slots that a buffer has room for.
@@ -51,23 +41,23 @@ pub fn list(
     from: u8,
     to: u8,
     out: &mut [u8],
-) -> Listed
-    ensures value { result ≡ list_answer (list_refusal_over ends ways links from to (length out.old)) (routes_over ends ways links from to) (length out.old) }
+) -> Result<Listed, Refusal>
+    ensures value { Answers result (list_refusal_over ends ways links from to (length out.old)) (listing_of (list_answer (list_refusal_over ends ways links from to (length out.old)) (routes_over ends ways links from to) (length out.old))) }
     ensures bytes { out.new ≡ list_after (list_refusal_over ends ways links from to (length out.old)) (routes_over ends ways links from to) out.old }
 {
     if (MOST_LINKS as usize) < links {
-        return refused(26);
+        return Err(Refusal::ChartCrowd);
     }
     if MOST_NODES <= from {
-        return refused(28);
+        return Err(Refusal::ChartStranger);
     }
     let room = slot_room(out.len());
     if room == 0 {
-        return refused(42);
+        return Err(Refusal::NoRouteRoom);
     }
     let t = links_by_node(ends, ways, links, to);
     if !reaches(&t, from) {
-        return refused(43);
+        return Err(Refusal::NoRoute);
     }
     let n = walk_on(
         &t,
@@ -78,9 +68,8 @@ pub fn list(
         &mut out[..SLOT_SIZE * room],
         0,
     );
-    Listed {
-        refusal: 0,
+    Ok(Listed {
         count: n.min(room),
         more: room < n,
-    }
+    })
 }

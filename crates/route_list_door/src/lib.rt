@@ -14,15 +14,21 @@ pub fn pz_routes(
 ) -> u8
     ensures { (result ≡ pz_routes_refusal chart.now (length slots.old)) × (count.new ≡ pz_routes_count chart.now (length slots.old)) × (more.new ≡ pz_routes_more chart.now (length slots.old)) × (place.new ≡ pz_routes_place chart.now) × (slots.new ≡ pz_routes_slots chart.now slots.old) }
 {
-    let read = chart_read::read_chart(chart);
-    *place = read.place as u16;
     *count = 0;
     *more = 0;
-    if read.refusal != 0 {
-        return read.refusal;
+    *place = 0;
+    match chart_read::read_chart(chart) {
+        Ok(c) => match route_trace::list_known(c, slots) {
+            Ok(l) => {
+                *count = l.count as u16;
+                *more = l.more as u8;
+                0
+            }
+            Err(refusal) => refusal.number(),
+        },
+        Err(fault) => {
+            *place = fault.place as u16;
+            fault.refusal.number()
+        }
     }
-    let l = route_trace::list_known(read.chart, slots);
-    *count = l.count as u16;
-    *more = l.more as u8;
-    l.refusal
 }

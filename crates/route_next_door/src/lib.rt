@@ -8,9 +8,8 @@ ghost use Rattle.route_first_door.specs.Routes.{pz_next_number, pz_next_buffer};
 pub fn pz_next(chart: &[u8], route: &mut [u8], length: usize) -> u8
     ensures { (result ≡ pz_next_number chart.now route.old length) × (route.new ≡ pz_next_buffer chart.now route.old length) }
 {
-    let read = chart_read::read_chart(chart);
-    if read.refusal != 0 {
-        return read.refusal;
+    match chart_read::read_chart(chart) {
+        Ok(c) => route_trace::one_number(route_trace::next_known(c, route, length)),
+        Err(fault) => fault.refusal.number(),
     }
-    route_trace::one_number(route_trace::next_known(read.chart, route, length))
 }

@@ -17,8 +17,13 @@ use Rattle.route_links.proofs.Arrays.{never}
 use Rattle.route_links.proofs.Standing.{routes-here}
 use Rattle.route_links.proofs.Table.{table-sound}
 use Rattle.route_links.proofs.Turning.{Turn, routes-none}
-use Rattle.route_search.specs.Private.{zeros, found_at}
-use Rattle.route_search.specs.declared.Found.{Found}
+use Rattle.std.specs.Prelude.{Option, Some, None, Result, Ok, Err, ok_or}
+use Rattle.refusal.specs.declared.Refusal.{Refusal}
+use Rattle.refusal.specs.declared.Refusal.TheVariants.{NoRoute}
+use Rattle.refusal.specs.Numbers.{Answers}
+use Rattle.refusal.proofs.Laws.{names}
+use Rattle.route_search.specs.declared.Route.{Route}
+use Rattle.route_search.specs.Private.{zeros, Found, found_at, route_found, found_of, found_route}
 
 -- ---- the first route
 
@@ -133,3 +138,26 @@ found-len d (route r) f e h =
     let l : f.len ≡ d + length r = ap (λ (g : Found). g.len) e in
     let k : length f.route ≡ d + (length r + (15 - (d + length r))) = ap (λ (g : Found). length g.route) e ∙ simp (length-append, length-replicate) in
     omega arith
+
+-- ---- the code's answers
+
+-- what an answer holds of what was found
+abbrev pub Finds : Result Route Refusal → Found → Type 0
+Finds x f = Answers x f.refusal (found_route f)
+
+pub found-ok : (f : Found) (r : Route) → Finds (Ok r) f → route_found r ≡ f
+found-ok f r h = λ j. record { refusal = sym h.0 j; len = (h.1 j).len; route = (h.1 j).links }
+
+pub ok-found : (f : Found) (r : Route) → route_found r ≡ f → Finds (Ok r) f
+ok-found f r e = (sym (ap (λ (g : Found). g.refusal) e), ap found_route e)
+
+-- where none is found there is no route
+pub found-or : (f : Found) (x : Option Route) → found_of x ≡ f → Finds (ok_or x NoRoute) f
+found-or f None e = ap (λ (g : Found). g.refusal) e
+found-or f (Some r) e = ok-found f r e
+
+-- a refusal but that is 41
+pub found-else : (d : ℕ) (o : Finding) (r : Refusal) → Finds (Err r) (found_at d o) → (r ≡ NoRoute → ⊥) → (found_at d o).refusal ≡ 41
+found-else d no_more r h n = absurd (n (names.one r NoRoute h))
+found-else d no_route r h n = refl
+found-else d (route s) r h n = absurd (names.none_zero r h)

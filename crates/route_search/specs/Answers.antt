@@ -3,12 +3,15 @@ use Rattle.std.specs.Prelude.{ℕ, List, [], length, take, ltb}
 use Rattle.std.proofs.lemmas.List.Edits.{sets}
 use Rattle.lists.specs.Refusals.{refuse, unless_refused}
 use Rattle.route.specs.All.{Finding, route, no_more, no_route, first_of, next_of}
-use Rattle.route_search.specs.declared.Traced.{Traced}
-use Rattle.route_search.specs.declared.Traced.TheVariants.{Route, Refused}
 
 -- a route has at most 15 links
 abbrev pub longest_route : ℕ
 longest_route = 15
+
+-- what a trace answers: the length of the route it wrote, or a refusal's number
+pub data Traced : Type 0 where
+  Route : ℕ → Traced
+  Refused : ℕ → Traced
 
 -- document 01's number and length for each case of an answer: 0 stands beside a route, 0 is the length beside a refusal
 abbrev pub traced_refusal : Traced → ℕ

@@ -4,8 +4,7 @@ use Rattle.lists.specs.Refusals.{unless_refused}
 use Rattle.route.specs.Route.{also, only}
 use Rattle.route.specs.All.{up_from, links_from, over, tries, routes, unmet, all_from, all_routes, route, no_more, no_route, first_of, same_links, next_of}
 use Rattle.route_links.specs.Arrays.{node_place, is_out, is_back, other_end, far_node}
-use Rattle.route_search.specs.declared.Traced.TheVariants.{Route, Refused}
-use Rattle.route_search.specs.Answers.{traced_refusal, traced_length, finding_refusal, finding_route, told, first_refusal, next_refusal, first_route, next_route}
+use Rattle.route_search.specs.Answers.{Route, Refused, traced_refusal, traced_length, finding_refusal, finding_route, told, first_refusal, next_refusal, first_route, next_route}
 use Rattle.route_search.specs.Private.{routes_over}
 
 -- two routes, 0 2 and 1

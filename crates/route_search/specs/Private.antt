@@ -1,14 +1,13 @@
 -- First and next over what the trace keeps by value (document 01, "Routes and their order"): the two ends of each link as node places, and the passage of each
 -- link (0 none, 1 both ways, 2 out, 3 back); and what was found on the way.
-use Rattle.std.specs.Prelude.{ℕ, ◌+◌, ◌-◌, List, ◌++◌, length, take, replicate, ltb, leb}
+use Rattle.std.specs.Prelude.{ℕ, ◌+◌, ◌-◌, List, ◌++◌, length, take, replicate, ltb, leb, Option, Some, None}
 use Rattle.std.proofs.lemmas.List.Edits.{sets}
 use Rattle.lists.specs.Refusals.{refuse, or_else, unless_refused}
 use Rattle.chart.specs.Values.{most_nodes, most_links}
 use Rattle.route.specs.All.{all_routes, Finding, route, no_more, no_route}
 use Rattle.route_links.specs.Arrays.{net}
-use Rattle.route_search.specs.declared.Traced.TheVariants.{Route, Refused}
-use Rattle.route_search.specs.declared.Found.{Found}
-use Rattle.route_search.specs.Answers.{longest_route, Told, told, first_refusal, next_refusal, first_route, next_route}
+use Rattle.route_search.specs.declared.Route as code
+use Rattle.route_search.specs.Answers.{longest_route, Route, Refused, Told, told, first_refusal, next_refusal, first_route, next_route}
 
 -- ---- first and next over the arrays
 
@@ -39,6 +38,12 @@ module _ (ends : List (List ℕ)) (ways : List ℕ) (links from to : ℕ) where
 abbrev pub zeros : ℕ → List ℕ
 zeros n = replicate n 0
 
+-- a route, of which the links from some place on are filled in, with its whole length and the number 0; or the number of a refusal
+pub record Found : Type 0 where
+  pub refusal : ℕ
+  pub len : ℕ
+  pub route : List ℕ
+
 -- nothing found: the refusal's number
 abbrev pub not_found : ℕ → Found
 not_found refusal = record { refusal = refusal; len = 0; route = zeros longest_route }
@@ -48,6 +53,17 @@ abbrev pub found_at : ℕ → Finding → Found
 found_at d (route r) = record { refusal = 0; len = d + length r; route = zeros d ++ (r ++ zeros (longest_route - (d + length r))) }
 found_at d no_more = not_found 43
 found_at d no_route = not_found 41
+
+-- a route that was found, and one that may be; and the route of what was found
+abbrev pub route_found : code.Route → Found
+route_found r = record { refusal = 0; len = r.len; route = r.links }
+
+abbrev pub found_of : Option code.Route → Found
+found_of None = not_found 43
+found_of (Some r) = route_found r
+
+abbrev pub found_route : Found → code.Route
+found_route f = record { len = f.len; links = f.route }
 
 -- what was found, in the buffer; where nothing was, the refusal
 unfoldable pub handed_over : Found → List ℕ → Told

@@ -1,7 +1,6 @@
 -- The trace of an accepted chart is the search over what is kept of it; a chart that is refused gives its own number.
 use Prim.Native.Nat.{ℕ, zero, suc, ◌<◌}
-use mathlib.Core.Path.{◌≡◌, refl, ap}
-use mathlib.Core.Bool.{false}
+use mathlib.Core.Path.{◌≡◌, sym, ap}
 use mathlib.Core.List.{List}
 use native.Mathlib.Omega.{arith}
 use lib.ListN.{length}
@@ -9,11 +8,17 @@ use Rattle.chart.specs.declared.Chart.{Chart}
 use Rattle.chart_refuse.specs.Refusal.{chart_refusal}
 use Rattle.chart_refuse.specs.Promises.{Accepted}
 use Rattle.chart_refuse.proofs.Accepted.{accepted}
-use Rattle.route_search.specs.Answers.{Told, first_route, next_route}
-use Rattle.route_search.specs.Private.{places_refusal, routes_over, first_refusal_over, next_refusal_over, first_over, next_over}
-use Rattle.route_search.proofs.Telling.{Promised, as-told, refused_told, refusing, places-right}
+use Rattle.lists.specs.Refusals.{or_else}
+use Rattle.std.specs.Prelude.{Result, Err}
+use Rattle.refusal.specs.declared.Refusal.{Refusal}
+use Rattle.refusal.specs.Numbers.{number, Answers}
+use Rattle.refusal.proofs.Laws.{names}
+use Rattle.route_search.specs.Answers.{first_refusal, next_refusal, first_route, next_route}
+use Rattle.route_search.specs.Private.{places_refusal, routes_over, first_refusal_over, next_refusal_over}
+use Rattle.route_search.proofs.Telling.{Promised, refusing, places-right}
 use Rattle.chart_net.specs.Net.{start, routes_of}
-use Rattle.route_list.specs.declared.Listed.{Listed}
+use Rattle.route_list.specs.declared.Listed as code
+use Rattle.route_list.specs.Listing.{list_refusal, listing_of}
 use Rattle.route_list.specs.Private.{list_refusal_over}
 use Rattle.route_list.proofs.Telling.{Gives}
 use Rattle.route_list.proofs.Telling as listing
@@ -21,8 +26,13 @@ use Rattle.chart_net.specs.declared.Asked.{Asked}
 use Rattle.chart_net.specs.Private.{station_place_for, ends_for, passages_for, asked_of, array_routes}
 use Rattle.chart_net.proofs.Places.{place-few}
 use Rattle.chart_net.proofs.Promises.{routes-kept, accepted-ends}
-use Rattle.route_trace.specs.Trace.{first_refusal_of, next_refusal_of, list_refusal_of, trace_first, trace_next, trace_list, trace_slots}
-use Rattle.route_trace.specs.Private.{first_known_refusal, next_known_refusal, list_known_refusal, first_known, next_known}
+use Rattle.route_trace.specs.Trace.{first_refusal_of, next_refusal_of, list_refusal_of, trace_list, trace_slots}
+use Rattle.route_trace.specs.Private.{first_known_refusal, next_known_refusal, list_known_refusal}
+
+-- of two refusals the first
+before : (r : Refusal) (k m : ℕ) → number r ≡ k → number r ≡ or_else k m
+before r zero m h = absurd (names.none_zero r h)
+before r (suc k) m h = h
 
 module _ (c : Chart) where
   -- first, next and the list over what is kept of the chart
@@ -35,57 +45,43 @@ module _ (c : Chart) where
     unfolding asked_of
     kept_from = ap (λ (a : Asked). a.from) q
 
-    pub first-kept : (buf : List ℕ) → first_over ends ways c.links.count asked.from asked.to buf ≡ first_known c buf
-    unfolding first_over first_refusal_over first_known first_known_refusal
-    first-kept buf = rw (kept-routes, kept_from)
+    pub first-kept : {x : Result ℕ Refusal} {after : List ℕ} (buf : List ℕ)
+        → Promised (first_refusal_over ends ways c.links.count asked.from asked.to buf) (first_route (routes_over ends ways c.links.count asked.from asked.to)) buf x after
+        → Promised (first_known_refusal c buf) (first_route (array_routes c)) buf x after
+    unfolding first_refusal_over first_known_refusal
+    first-kept {x} {after} buf p = rw (kept-routes, kept_from) at p
 
-    pub next-kept : (buf : List ℕ) (n : ℕ) → next_over ends ways c.links.count asked.from asked.to buf n ≡ next_known c buf n
-    unfolding next_over next_refusal_over next_known next_known_refusal
-    next-kept buf n = rw (kept-routes, kept_from)
+    pub next-kept : {x : Result ℕ Refusal} {after : List ℕ} (buf : List ℕ) (n : ℕ)
+        → Promised (next_refusal_over ends ways c.links.count asked.from asked.to buf n) (next_route (routes_over ends ways c.links.count asked.from asked.to) buf n) buf x after
+        → Promised (next_known_refusal c buf n) (next_route (array_routes c) buf n) buf x after
+    unfolding next_refusal_over next_known_refusal
+    next-kept {x} {after} buf n p = rw (kept-routes, kept_from) at p
 
     refusal-kept : (n : ℕ) → list_refusal_over ends ways c.links.count asked.from asked.to n ≡ list_known_refusal c n
     unfolding list_refusal_over list_known_refusal
     refusal-kept n = rw (kept-routes, kept_from)
 
-    pub list-kept : {r : Listed} {after : List ℕ} (buf : List ℕ)
+    pub list-kept : (r : Result code.Listed Refusal) (after buf : List ℕ)
         → Gives (list_refusal_over ends ways c.links.count asked.from asked.to (length buf)) (routes_over ends ways c.links.count asked.from asked.to) buf r after
         → Gives (list_known_refusal c (length buf)) (array_routes c) buf r after
-    list-kept {r} {after} buf g = rw (refusal-kept (length buf), kept-routes) at g
-
-  -- what first and next promise of an answer and the bytes after it
-  abbrev pub FirstPromised : List ℕ → Told → Type 0
-  FirstPromised buf t = Promised (first_refusal_of c buf) (first_route (routes_of c)) buf (trace_first c buf) t
-
-  abbrev pub NextPromised : List ℕ → ℕ → Told → Type 0
-  NextPromised buf n t = Promised (next_refusal_of c buf n) (next_route (routes_of c) buf n) buf (trace_next c buf n) t
-
-  pub first-self : (buf : List ℕ) → FirstPromised buf (trace_first c buf)
-  unfolding trace_first
-  first-self buf = as-told (first_refusal_of c buf) (first_route (routes_of c)) buf (trace_first c buf) refl
-
-  pub next-self : (buf : List ℕ) (n : ℕ) → NextPromised buf n (trace_next c buf n)
-  unfolding trace_next
-  next-self buf n = as-told (next_refusal_of c buf n) (next_route (routes_of c) buf n) buf (trace_next c buf n) refl
+    list-kept r after buf g = rw (refusal-kept (length buf), kept-routes) at g
 
   -- the chart's number comes before all others
-  pub first-refused : (buf : List ℕ) (k : ℕ) → k ≡ chart_refusal c → (k ≡ 0 → ⊥) → FirstPromised buf (refused_told k buf)
-  unfolding trace_first first_refusal_of
-  first-refused buf zero e n = absurd (n refl)
-  first-refused buf (suc k) e n = refusing (first_refusal_of c buf) k (first_route (routes_of c)) buf (rw (← e))
+  pub first-refused : (buf : List ℕ) (r : Refusal) → number r ≡ chart_refusal c → Promised (first_refusal_of c buf) (first_route (routes_of c)) buf (Err r) buf
+  unfolding first_refusal_of
+  first-refused buf r h = refusing (first_refusal_of c buf) r (first_route (routes_of c)) buf (before r (chart_refusal c) (first_refusal (routes_of c) buf) h)
 
-  pub next-refused : (buf : List ℕ) (n k : ℕ) → k ≡ chart_refusal c → (k ≡ 0 → ⊥) → NextPromised buf n (refused_told k buf)
-  unfolding trace_next next_refusal_of
-  next-refused buf n zero e z = absurd (z refl)
-  next-refused buf n (suc k) e z = refusing (next_refusal_of c buf n) k (next_route (routes_of c) buf n) buf (rw (← e))
+  pub next-refused : (buf : List ℕ) (n : ℕ) (r : Refusal) → number r ≡ chart_refusal c → Promised (next_refusal_of c buf n) (next_route (routes_of c) buf n) buf (Err r) buf
+  unfolding next_refusal_of
+  next-refused buf n r h = refusing (next_refusal_of c buf n) r (next_route (routes_of c) buf n) buf (before r (chart_refusal c) (next_refusal (routes_of c) buf n) h)
 
-  -- and what the list does
-  abbrev pub ListPromised : List ℕ → Listed → List ℕ → Type 0
-  ListPromised buf r after = (r ≡ trace_list c (length buf)) × (after ≡ trace_slots c buf)
+  -- what the list promises
+  abbrev pub ListPromised : List ℕ → Result code.Listed Refusal → List ℕ → Type 0
+  ListPromised buf r after = Answers r (list_refusal_of c (length buf)) (listing_of (trace_list c (length buf))) × (after ≡ trace_slots c buf)
 
-  pub list-refused : (buf : List ℕ) (k : ℕ) → k ≡ chart_refusal c → (k ≡ 0 → ⊥) → ListPromised buf (record { refusal = k; count = 0; more = false }) buf
+  pub list-refused : (buf : List ℕ) (r : Refusal) → number r ≡ chart_refusal c → ListPromised buf (Err r) buf
   unfolding trace_list trace_slots list_refusal_of
-  list-refused buf zero e n = absurd (n refl)
-  list-refused buf (suc k) e n = listing.refusing (list_refusal_of c (length buf)) k (routes_of c) buf (rw (← e)) refl
+  list-refused buf r h = listing.refusing (list_refusal_of c (length buf)) r (routes_of c) buf (sym (before r (chart_refusal c) (list_refusal (routes_of c) (length buf)) h))
 
   module _ (ok : chart_refusal c ≡ 0) where
     yes : Accepted c
@@ -104,18 +100,28 @@ module _ (c : Chart) where
     unfolding array_routes
     kept = routes-kept c yes
 
-    pub first-known : (buf : List ℕ) → first_known c buf ≡ trace_first c buf
-    unfolding first_known first_known_refusal array_routes trace_first first_refusal_of
-    first-known buf = rw (places-kept, ok, kept)
+    first-number : (buf : List ℕ) → first_known_refusal c buf ≡ first_refusal_of c buf
+    unfolding first_known_refusal first_refusal_of array_routes
+    first-number buf = rw (places-kept, ok, kept)
+
+    pub first-known : {x : Result ℕ Refusal} {after : List ℕ} (buf : List ℕ) → Promised (first_known_refusal c buf) (first_route (array_routes c)) buf x after
+        → Promised (first_refusal_of c buf) (first_route (routes_of c)) buf x after
+    unfolding array_routes
+    first-known {x} {after} buf p = rw (first-number buf, kept) at p
+
+    next-number : (buf : List ℕ) (n : ℕ) → next_known_refusal c buf n ≡ next_refusal_of c buf n
+    unfolding next_known_refusal next_refusal_of array_routes
+    next-number buf n = rw (places-kept, ok, kept)
+
+    pub next_known-trace : {x : Result ℕ Refusal} {after : List ℕ} (buf : List ℕ) (n : ℕ) → Promised (next_known_refusal c buf n) (next_route (array_routes c) buf n) buf x after
+        → Promised (next_refusal_of c buf n) (next_route (routes_of c) buf n) buf x after
+    unfolding array_routes
+    next_known-trace {x} {after} buf n p = rw (next-number buf n, kept) at p
 
     pub list-refusal-known : (n : ℕ) → list_known_refusal c n ≡ list_refusal_of c n
     unfolding list_known_refusal list_refusal_of array_routes
     list-refusal-known n = rw (places-kept, ok, kept)
 
-    pub list-known : {r : Listed} {after : List ℕ} (buf : List ℕ) → Gives (list_known_refusal c (length buf)) (array_routes c) buf r after → ListPromised buf r after
+    pub list-known : (r : Result code.Listed Refusal) (after buf : List ℕ) → Gives (list_known_refusal c (length buf)) (array_routes c) buf r after → ListPromised buf r after
     unfolding trace_list trace_slots array_routes
-    list-known buf g = rw (list-refusal-known (length buf), kept) at g
-
-    pub next_known-trace : (buf : List ℕ) (n : ℕ) → next_known c buf n ≡ trace_next c buf n
-    unfolding next_known next_known_refusal array_routes trace_next next_refusal_of
-    next_known-trace buf n = rw (places-kept, ok, kept)
+    list-known r after buf g = rw (list-refusal-known (length buf), kept) at g

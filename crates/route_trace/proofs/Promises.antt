@@ -28,8 +28,7 @@ use Rattle.route_links.specs.ByNode.{other_than, leads_out, links_out}
 use Rattle.route_links.specs.Sets.{where_from}
 use Rattle.route_links.proofs.Places.{where-same}
 use Rattle.chart_refuse.specs.Promises.{Accepted}
-use Rattle.route_search.specs.declared.Traced.TheVariants.{Route, Refused}
-use Rattle.route_search.specs.Answers.{Told, told, finding_refusal, finding_route, first_refusal, next_refusal}
+use Rattle.route_search.specs.Answers.{Route, Refused, Told, told, finding_refusal, finding_route, first_refusal, next_refusal}
 use Rattle.route_search.proofs.Telling.{first-room, next-room, next-long}
 use Rattle.chart_net.specs.Private.{ends_for, passages_for}
 use Rattle.chart_net.proofs.Kept.{far-same, leads-away}

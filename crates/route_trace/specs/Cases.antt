@@ -10,8 +10,7 @@ use Rattle.chart.specs.Sample.{S}
 use Rattle.chart_refuse.specs.Refusal.{node_refusal_at, link_refusal_at, chart_values_refusal, chart_refusal}
 use Rattle.route.specs.Route.{also, only}
 use Rattle.route.specs.All.{up_from, links_from, over, tries, routes, unmet, all_from, all_routes, first_of, same_links, next_of}
-use Rattle.route_search.specs.declared.Traced.TheVariants.{Route, Refused}
-use Rattle.route_search.specs.Answers.{finding_refusal, finding_route, told, first_refusal, next_refusal}
+use Rattle.route_search.specs.Answers.{Route, Refused, finding_refusal, finding_route, told, first_refusal, next_refusal}
 use Rattle.route_list.specs.Listing.{slot_of, slots_of, slot_room, list_refusal, list_count, list_more, list_answer, list_after}
 use Rattle.chart_net.specs.Net.{station_place, goes_out, goes_back, far_end, routes_between, routes_of}
 use Rattle.chart_net.specs.Cases.{turned}

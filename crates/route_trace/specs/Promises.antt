@@ -7,8 +7,7 @@ use mathlib.Core.List.{List, [], ◌∷◌, Memᴰ}
 use Rattle.chart.specs.declared.Chart.{Chart}
 use Rattle.chart_refuse.specs.Refusal.{chart_refusal}
 use Rattle.route.specs.Route.{Net, Increasing, NoneTwice}
-use Rattle.route_search.specs.declared.Traced.TheVariants.{Route, Refused}
-use Rattle.route_search.specs.Answers.{longest_route, Told}
+use Rattle.route_search.specs.Answers.{Route, Refused, longest_route, Told}
 use Rattle.route_links.specs.Arrays.{net}
 use Rattle.route_links.specs.Sets.{where_from, places_in}
 use Rattle.route_links.specs.ByNode.{out_row, ByNode}

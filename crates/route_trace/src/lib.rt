@@ -3,36 +3,35 @@
 #![tactic(auto)]
 
 ghost use Rattle.std.specs.Prelude.{◌≡◌, length};
-ghost use Rattle.lists.specs.Refusals.{unless_refused};
-ghost use Rattle.route_search.specs.Answers.{traced_refusal, traced_length, first_route, next_route};
-ghost use Rattle.route_list.specs.Listing.{list_answer, list_after};
+ghost use Rattle.refusal.specs.Numbers.{Answers};
+ghost use Rattle.route_search.specs.Answers.{first_route, next_route};
+ghost use Rattle.route_list.specs.Listing.{list_answer, list_after, listing_of};
 ghost use Rattle.chart_net.specs.Net.{routes_of};
-ghost use Rattle.route_trace.specs.Trace.{one_number, first_refusal_of, next_refusal_of, trace_first, trace_next, trace_list, trace_slots};
+ghost use Rattle.route_trace.specs.Trace.{traced, one_number, first_refusal_of, next_refusal_of, list_refusal_of, trace_first, trace_next, trace_list, trace_slots};
 ghost use Rattle.route_trace.specs.Private.{first_known_refusal, next_known_refusal, list_known_refusal, first_known, next_known};
 ghost use Rattle.chart_net.specs.Private.{array_routes};
 
 use chart::Chart;
 use chart_net::{asked_of, ends_of, passages_for};
 use chart_refuse::chart_refusal;
+use refusal::Refusal;
 use route_list::Listed;
-use route_search::{Traced, first_route, next_route};
+use route_search::{first_route, next_route};
 
 // Document 01's one number: the route's length, or the refusal.
-pub fn one_number(t: Traced) -> u8
-    ensures { result ≡ one_number t }
+pub fn one_number(t: Result<u8, Refusal>) -> u8
+    ensures { result ≡ one_number (traced t) }
 {
     match t {
-        Traced::Route(n) => n,
-        Traced::Refused(k) => k,
+        Ok(n) => n,
+        Err(refusal) => refusal.number(),
     }
 }
 
-// The least route over what is kept of a chart, which is not tested: the trace of one that is known to be right.
-pub fn first_known(c: Chart, buf: &mut [u8]) -> Traced
-    ensures value { result ≡ (first_known c buf.old).answer }
+// The least route over what is kept of a chart, which is not tested, and its length: the trace of one that is known to be right.
+pub fn first_known(c: Chart, buf: &mut [u8]) -> Result<u8, Refusal>
+    ensures value { Answers result (first_known_refusal c buf.old) (length (first_route (array_routes c))) }
     ensures bytes { buf.new ≡ (first_known c buf.old).bytes }
-    ensures refusal { traced_refusal result ≡ first_known_refusal c buf.old }
-    ensures length { traced_length result ≡ unless_refused (first_known_refusal c buf.old) (length (first_route (array_routes c))) 0 }
 {
     let links = c.links;
     let ends = ends_of(c);
@@ -42,11 +41,9 @@ pub fn first_known(c: Chart, buf: &mut [u8]) -> Traced
 }
 
 // The least one after the route in the first `given` bytes of the buffer, likewise.
-pub fn next_known(c: Chart, buf: &mut [u8], given: usize) -> Traced
-    ensures value { result ≡ (next_known c buf.old given).answer }
+pub fn next_known(c: Chart, buf: &mut [u8], given: usize) -> Result<u8, Refusal>
+    ensures value { Answers result (next_known_refusal c buf.old given) (length (next_route (array_routes c) buf.old given)) }
     ensures bytes { buf.new ≡ (next_known c buf.old given).bytes }
-    ensures refusal { traced_refusal result ≡ next_known_refusal c buf.old given }
-    ensures length { traced_length result ≡ unless_refused (next_known_refusal c buf.old given) (length (next_route (array_routes c) buf.old given)) 0 }
 {
     let links = c.links;
     let ends = ends_of(c);
@@ -64,8 +61,8 @@ pub fn next_known(c: Chart, buf: &mut [u8], given: usize) -> Traced
 }
 
 // All routes over what is kept of a chart, likewise.
-pub fn list_known(c: Chart, out: &mut [u8]) -> Listed
-    ensures value { result ≡ list_answer (list_known_refusal c (length out.old)) (array_routes c) (length out.old) }
+pub fn list_known(c: Chart, out: &mut [u8]) -> Result<Listed, Refusal>
+    ensures value { Answers result (list_known_refusal c (length out.old)) (listing_of (list_answer (list_known_refusal c (length out.old)) (array_routes c) (length out.old))) }
     ensures bytes { out.new ≡ list_after (list_known_refusal c (length out.old)) (array_routes c) out.old }
 {
     let links = c.links;
@@ -75,46 +72,29 @@ pub fn list_known(c: Chart, out: &mut [u8]) -> Listed
     route_list::list(ends, ways, links.count as usize, asked.from, asked.to, out)
 }
 
-// The least route, written into the buffer; or a refusal, which changes nothing.
-pub fn first(c: Chart, buf: &mut [u8]) -> Traced
-    ensures value { result ≡ (trace_first c buf.old).answer }
+// The least route, written into the buffer, and its length; or a refusal, which changes nothing.
+pub fn first(c: Chart, buf: &mut [u8]) -> Result<u8, Refusal>
+    ensures value { Answers result (first_refusal_of c buf.old) (length (first_route (routes_of c))) }
     ensures bytes { buf.new ≡ (trace_first c buf.old).bytes }
-    ensures refusal { traced_refusal result ≡ first_refusal_of c buf.old }
-    ensures length { traced_length result ≡ unless_refused (first_refusal_of c buf.old) (length (first_route (routes_of c))) 0 }
 {
-    let refusal = chart_refusal(c);
-    if refusal != 0 {
-        return Traced::Refused(refusal);
-    }
+    chart_refusal(c)?;
     first_known(c, buf)
 }
 
-// The least route after the one in the first `given` bytes of the buffer, written over it; or a refusal, which changes nothing.
-pub fn next(c: Chart, buf: &mut [u8], given: usize) -> Traced
-    ensures value { result ≡ (trace_next c buf.old given).answer }
+// The least route after the one in the first `given` bytes of the buffer, written over it, and its length; or a refusal, which changes nothing.
+pub fn next(c: Chart, buf: &mut [u8], given: usize) -> Result<u8, Refusal>
+    ensures value { Answers result (next_refusal_of c buf.old given) (length (next_route (routes_of c) buf.old given)) }
     ensures bytes { buf.new ≡ (trace_next c buf.old given).bytes }
-    ensures refusal { traced_refusal result ≡ next_refusal_of c buf.old given }
-    ensures length { traced_length result ≡ unless_refused (next_refusal_of c buf.old given) (length (next_route (routes_of c) buf.old given)) 0 }
 {
-    let refusal = chart_refusal(c);
-    if refusal != 0 {
-        return Traced::Refused(refusal);
-    }
+    chart_refusal(c)?;
     next_known(c, buf, given)
 }
 
 // All routes, as many as the buffer has room for; or a refusal, which changes nothing.
-pub fn list(c: Chart, out: &mut [u8]) -> Listed
-    ensures value { result ≡ trace_list c (length out.old) }
+pub fn list(c: Chart, out: &mut [u8]) -> Result<Listed, Refusal>
+    ensures value { Answers result (list_refusal_of c (length out.old)) (listing_of (trace_list c (length out.old))) }
     ensures bytes { out.new ≡ trace_slots c out.old }
 {
-    let refusal = chart_refusal(c);
-    if refusal != 0 {
-        return Listed {
-            refusal,
-            count: 0,
-            more: false,
-        };
-    }
+    chart_refusal(c)?;
     list_known(c, out)
 }

@@ -1,6 +1,6 @@
 -- The sheet's text in its parts; and what a writer leaves that writes into an empty buffer first and then, if there is room, into the one it was lent.
 use Prim.Native.Nat.{ℕ, ◌+◌, ◌<◌, ◌≤◌}
-use mathlib.Core.Path.{◌≡◌, sym, ap, ◌∙◌}
+use mathlib.Core.Path.{◌≡◌, refl, sym, ap, ap₂, ◌∙◌}
 use mathlib.Core.List.{List, [], ◌++◌}
 use native.Mathlib.Omega.{arith}
 use borrow.Author.Tests.{lt-ltb, le-ltb}
@@ -8,16 +8,17 @@ use lib.ListN.{length}
 use Rattle.buffer.specs.Bytes.{Bytes}
 use Rattle.lists.specs.Places.{joined}
 use Rattle.lists.specs.Refusals.{unless_refused}
-use Rattle.buffer.specs.Writing.{written_refusal, written_count, wrote_unless}
-use Rattle.buffer.specs.declared.Written.{Written}
-use Rattle.buffer.specs.declared.Written.TheVariants.{Wrote, Refused}
+use Rattle.std.specs.Prelude.{Result, Ok, Err}
+use Rattle.refusal.specs.declared.Refusal.{Refusal}
+use Rattle.refusal.specs.declared.Refusal.TheVariants.{NoRoom}
+use Rattle.refusal.specs.declared.Fault.{Fault}
+use Rattle.refusal.specs.Numbers.{number, AnswersAt}
+use Rattle.refusal.proofs.Laws.{names}
 use Rattle.lists.proofs.Refusals.{refused}
 use Rattle.lists.proofs.Stores.{sets-past, sets-front}
-use Rattle.buffer.proofs.Writing.{wrote-refusal, wrote_count}
 use Rattle.lists.proofs.Places.{joined-next}
 use Rattle.chart.specs.declared.Chart.{Chart}
-use Rattle.chart_read.specs.declared.ChartRead.{ChartRead}
-use Rattle.chart_read.specs.Reading.{read_chart_of}
+use Rattle.chart_read.specs.Reading.{ChartRead, read_chart_of}
 use Rattle.chart_refuse.specs.Refusal.{chart_refusal}
 use Rattle.chart_refuse.specs.Promises.{Accepted}
 use Rattle.chart_refuse.proofs.Accepted.{accepted}
@@ -32,7 +33,7 @@ use Rattle.text.specs.Private.{Laid, last}
 use Rattle.text.proofs.Joining.{◌▸◌, said}
 use Rattle.sheet_lines.specs.Lines.{refused_line}
 use Rattle.sheet_routes.specs.Private.{routes_held}
-use Rattle.sheet.specs.Sheet.{long_line, place, line_at, chart_text, read_text, sheet_text, sheet_refusal, write_sheet_of, sheet_after}
+use Rattle.sheet.specs.Sheet.{long_line, place, line_at, chart_text, read_text, sheet_text, sheet_refusal, SheetAnswers, sheet_after}
 
 -- ---- one line more
 
@@ -61,11 +62,11 @@ kept-listed c ok e w q = (λ j. routes_held (e j) (w j) c.links.count (q j).from
 
 -- ---- what was read
 
-pub read-refused : (r : ChartRead) → (r.refusal ≡ 0 → ⊥) → refused_line r.refusal r.place ≡ read_text r
+read-refused : (r : ChartRead) → (r.refusal ≡ 0 → ⊥) → refused_line r.refusal r.place ≡ read_text r
 unfolding read_text
 read-refused r h = sym (refused (chart_text r.chart) (refused_line r.refusal r.place) r.refusal h)
 
-pub read-chart : (r : ChartRead) → r.refusal ≡ 0 → chart_text r.chart ≡ read_text r
+read-chart : (r : ChartRead) → r.refusal ≡ 0 → chart_text r.chart ≡ read_text r
 unfolding read_text unless_refused
 read-chart r e = rw e
 
@@ -79,26 +80,30 @@ pub input-long : (bytes : List ℕ) → 4096 < length bytes → long_line ≡ sh
 unfolding sheet_text
 input-long bytes h = rw (lt-ltb 4096 (length bytes) h)
 
-pub input-read : (bytes : List ℕ) → length bytes ≤ 4096 → read_text (read_chart_of bytes) ≡ sheet_text bytes
+input-read : (bytes : List ℕ) → length bytes ≤ 4096 → read_text (read_chart_of bytes) ≡ sheet_text bytes
 unfolding sheet_text
 input-read bytes h = rw (le-ltb 4096 (length bytes) h)
+
+-- what the reader gives
+abbrev pub Reads : List ℕ → Result Chart Fault → Type 0
+Reads bytes x = AnswersAt x (read_chart_of bytes).refusal (read_chart_of bytes).place (read_chart_of bytes).chart
+
+pub given-accepted : (bytes : List ℕ) → Bytes bytes → (c : Chart) → Reads bytes (Ok c) → chart_refusal c ≡ 0
+given-accepted bytes s c h = ap chart_refusal h.1.1 ∙ read-accepted bytes s (read_chart_of bytes) refl h.0
+
+pub input-chart : (bytes : List ℕ) → length bytes ≤ 4096 → (c : Chart) → Reads bytes (Ok c) → chart_text c ≡ sheet_text bytes
+input-chart bytes l c h = ap chart_text h.1.1 ∙ read-chart (read_chart_of bytes) h.0 ∙ input-read bytes l
+
+pub input-refused : (bytes : List ℕ) → length bytes ≤ 4096 → (f : Fault) → Reads bytes (Err f) → {n : ℕ} → n ≡ number f.refusal → refused_line n f.place ≡ sheet_text bytes
+input-refused bytes l f h e = ap₂ refused_line (e ∙ h.0) h.1 ∙ read-refused (read_chart_of bytes) (λ z. names.none_zero f.refusal (h.0 ∙ z)) ∙ input-read bytes l
 
 -- ---- the writer
 
 -- what is promised of an answer and of the buffer after it
-abbrev pub Sheeted : List ℕ → List ℕ → Written → List ℕ → Type 0
-Sheeted bytes out answer new =
-    (answer ≡ write_sheet_of bytes (length out))
-    × ((written_refusal answer ≡ sheet_refusal bytes (length out))
-    × ((written_count answer ≡ unless_refused (sheet_refusal bytes (length out)) (length (sheet_text bytes)) 0)
-    × (new ≡ sheet_after bytes out)))
+abbrev pub Sheeted : List ℕ → List ℕ → Result ℕ Refusal → List ℕ → Type 0
+Sheeted bytes out answer new = SheetAnswers bytes (length out) answer × (new ≡ sheet_after bytes out)
 
 module _ (bytes out : List ℕ) where
-  sheeted : {answer : Written} {new : List ℕ} → answer ≡ write_sheet_of bytes (length out) → new ≡ sheet_after bytes out → Sheeted bytes out answer new
-  unfolding write_sheet_of
-  sheeted e f =
-      (e, (ap written_refusal e ∙ wrote-refusal (sheet_refusal bytes (length out)) _, (ap written_count e ∙ wrote_count (sheet_refusal bytes (length out)) _, f)))
-
   short : length out < length (sheet_text bytes) → sheet_refusal bytes (length out) ≡ 10
   unfolding sheet_refusal
   short h = rw (lt-ltb _ _ h)
@@ -108,15 +113,15 @@ module _ (bytes out : List ℕ) where
   fits h = rw (le-ltb _ _ h)
 
   -- the text does not fit: 10, and the buffer as it was
-  pub sheet-refused : {new : List ℕ} → length out < length (sheet_text bytes) → new ≡ out → Sheeted bytes out (Refused 10) new
-  unfolding write_sheet_of sheet_after wrote_unless unless_refused
-  sheet-refused h e = sheeted (rw (short h)) (e ∙ rw (short h))
+  pub sheet-refused : {new : List ℕ} → length out < length (sheet_text bytes) → new ≡ out → Sheeted bytes out (Err NoRoom) new
+  unfolding sheet_after unless_refused
+  sheet-refused h e = (sym (short h), e ∙ rw (short h))
 
   -- it fits, and is laid from the start on
   pub sheet-wrote : {n k : ℕ} {new : List ℕ} → length (sheet_text bytes) ≤ length out → n ≡ length (sheet_text bytes) → Laid out 0 (sheet_text bytes) new k
-      → Sheeted bytes out (Wrote n) new
-  unfolding write_sheet_of sheet_after wrote_unless unless_refused
-  sheet-wrote {n} {k} {new} h e w = sheeted (rw (fits h) (ap Wrote e)) (rw (fits h) (w.bytes ∙ sets-front out (sheet_text bytes) h))
+      → Sheeted bytes out (Ok n) new
+  unfolding sheet_after unless_refused
+  sheet-wrote {n} {k} {new} h e w = ((fits h, e), rw (fits h) (w.bytes ∙ sets-front out (sheet_text bytes) h))
 
 -- writing into an empty buffer measures, and stores nothing
 module _ {text m : List ℕ} {n : ℕ} (out : List ℕ) (p : Laid [] 0 text m n) where

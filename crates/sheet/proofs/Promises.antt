@@ -10,7 +10,6 @@ use Rattle.lists.specs.Places.{any_below, joined}
 use Rattle.lists.specs.Refusals.{unless_refused}
 use Rattle.lists.proofs.Bools.{and_left, and_right}
 use Rattle.lists.proofs.Runs.{joined-most}
-use Rattle.buffer.proofs.Writing.{wrote-size}
 use Rattle.address.specs.declared.Address.{Address}
 use Rattle.address.specs.Address.{station_in_range, in_range}
 use Rattle.chart.specs.declared.ChartNode.{ChartNode}
@@ -18,8 +17,7 @@ use Rattle.chart.specs.declared.Link.{Link}
 use Rattle.chart.specs.declared.Chart.{Chart}
 use Rattle.chart.specs.Values.{node_at, link_at, stray_byte, node_in_range, end_in_range, direction_in_range, link_in_range}
 use Rattle.chart.proofs.Laws.{question-passed}
-use Rattle.chart_read.specs.declared.ChartRead.{ChartRead}
-use Rattle.chart_read.specs.Reading.{read_chart_of}
+use Rattle.chart_read.specs.Reading.{ChartRead, read_chart_of}
 use Rattle.chart_refuse.specs.Refusal.{chart_refusal}
 use Rattle.chart_refuse.proofs.Laws.{Passed, passed, node_of, link-of}
 use Rattle.chart_refuse.proofs.Accepted.{accepted}
@@ -35,7 +33,7 @@ use Rattle.sheet_lines.specs.Lines.{node_line, link_line}
 use Rattle.sheet_lines.proofs.Lengths.{node_long, link_long, question-long}
 use Rattle.sheet_routes.specs.RouteLines.{route_line, list_text}
 use Rattle.sheet_routes.proofs.Lengths.{route-long, list-long}
-use Rattle.sheet.specs.Sheet.{long_line, place, line_at, chart_text, read_text, sheet_text, sheet_refusal, write_sheet_of}
+use Rattle.sheet.specs.Sheet.{long_line, place, line_at, chart_text, read_text, sheet_text}
 use Rattle.sheet.specs.Promises.{SheetShort, WrittenShort}
 use Rattle.sheet.proofs.Laws.{read-accepted}
 
@@ -118,8 +116,7 @@ sheet-short bytes s = go (ltb 4096 (length bytes))
 
 -- so is what a writing gives
 pub wrote-short : WrittenShort
-unfolding write_sheet_of
 wrote-short bytes s room n e =
     let h : length (sheet_text bytes) ≤ 47369 = sheet-short bytes s in
-    let k : n ≡ length (sheet_text bytes) = (wrote-size n (sheet_refusal bytes room) (length (sheet_text bytes)) e).1 in
+    let k : n ≡ length (sheet_text bytes) = e.1 in
     omega arith

@@ -1,13 +1,13 @@
 -- The printed sheet (document 01, "The printed sheet"): what is printed of an input, and what becomes of the buffer that it is written into.
-use Rattle.std.specs.Prelude.{ℕ, cond, List, ◌++◌, length, ltb}
+use Rattle.std.specs.Prelude.{ℕ, cond, List, ◌++◌, length, ltb, Result}
 use Rattle.lists.specs.Places.{joined}
 use Rattle.lists.specs.Refusals.{refuse, unless_refused}
-use Rattle.buffer.specs.declared.Written.{Written}
-use Rattle.buffer.specs.Writing.{wrote_unless, lent_after}
+use Rattle.refusal.specs.declared.Refusal.{Refusal}
+use Rattle.refusal.specs.Numbers.{Answers}
+use Rattle.buffer.specs.Writing.{lent_after}
 use Rattle.chart.specs.declared.Chart.{Chart}
 use Rattle.chart.specs.Values.{node_at, link_at}
-use Rattle.chart_read.specs.declared.ChartRead.{ChartRead}
-use Rattle.chart_read.specs.Reading.{read_chart_of}
+use Rattle.chart_read.specs.Reading.{ChartRead, read_chart_of}
 use Rattle.chart_net.specs.Net.{routes_of}
 use Rattle.text.specs.Marks.{ascii}
 use Rattle.sheet_lines.specs.Lines.{counts_line, refused_line}
@@ -52,8 +52,8 @@ unfoldable pub sheet_refusal : List ℕ → ℕ → ℕ
 sheet_refusal bytes room = refuse 10 (ltb room (length (sheet_text bytes))) 0
 
 -- the number of bytes written, or 10
-unfoldable pub write_sheet_of : List ℕ → ℕ → Written
-write_sheet_of bytes room = wrote_unless (sheet_refusal bytes room) (length (sheet_text bytes))
+abbrev pub SheetAnswers : List ℕ → ℕ → Result ℕ Refusal → Type 0
+SheetAnswers bytes room x = Answers x (sheet_refusal bytes room) (length (sheet_text bytes))
 
 -- what the buffer then holds
 unfoldable pub sheet_after : List ℕ → List ℕ → List ℕ

@@ -3,20 +3,19 @@
 
 ghost use Rattle.std.specs.Prelude.{◌≡◌, ◌≤◌, length};
 ghost use Rattle.lists.specs.Places.{joined};
-ghost use Rattle.lists.specs.Refusals.{unless_refused};
-ghost use Rattle.buffer.specs.Writing.{written_refusal, written_count};
+ghost use Rattle.refusal.specs.Numbers.{Answers};
 ghost use Rattle.chart.specs.Values.{most_links, most_nodes, node_at, link_at};
 ghost use Rattle.chart_refuse.specs.Refusal.{chart_refusal};
 ghost use Rattle.chart_net.specs.Net.{routes_of};
 ghost use Rattle.text.specs.Private.{Laid};
 ghost use Rattle.sheet_lines.specs.Lines.{node_line, link_line};
 ghost use Rattle.sheet_routes.specs.RouteLines.{most_routes, list_text};
-ghost use Rattle.sheet.specs.Sheet.{place, line_at, chart_text, read_text, sheet_text, sheet_refusal, write_sheet_of, sheet_after};
+ghost use Rattle.sheet.specs.Sheet.{place, line_at, chart_text, sheet_text, sheet_refusal, sheet_after};
 
-use buffer::Written;
 use chart::{Chart, Links, Nodes};
 use chart_net::{asked_of, ends_of, passages_for};
-use chart_read::{ChartRead, read_chart};
+use chart_read::read_chart;
+use refusal::Refusal;
 use sheet_lines::{put_counts, put_link, put_node, put_question, put_refused};
 use sheet_routes::put_routes;
 use text::put_bytes;
@@ -82,43 +81,33 @@ fn put_chart(out: &mut [u8], at: usize, c: Chart) -> usize
     put_chart_routes(out, n4, c)
 }
 
-// The sheet of a chart as it was read, or the line of a refused one.
-fn put_read(out: &mut [u8], at: usize, r: ChartRead) -> usize
-    requires { r.refusal ≡ 0 → chart_refusal r.chart ≡ 0 }
-    ensures { Laid out.old at (read_text r) out.new result }
-{
-    if r.refusal != 0 {
-        return put_refused(out, at, r.refusal, r.place);
-    }
-    put_chart(out, at, r.chart)
-}
-
-// The sheet of an input.
+// The sheet of an input: that of its chart, or the line of a refused one.
 fn put_sheet(out: &mut [u8], at: usize, bytes: &[u8]) -> usize
     ensures { Laid out.old at (sheet_text bytes.now) out.new result }
 {
     if LONGEST_INPUT < bytes.len() {
         return put_bytes(out, at, b"too long\n");
     }
-    put_read(out, at, read_chart(bytes))
+    match read_chart(bytes) {
+        Ok(c) => put_chart(out, at, c),
+        Err(fault) => put_refused(out, at, fault.refusal.number(), fault.place),
+    }
 }
 
 // Writes the sheet of an input at the start of out, and gives the number of bytes written; 10 where there is no room for all of it. In a buffer that may
 // be too short it is measured first, by writing it into an empty one.
-pub fn write_sheet(bytes: &[u8], out: &mut [u8]) -> Written
-    ensures value { result ≡ write_sheet_of bytes.now (length out.old) }
-    ensures refusal { written_refusal result ≡ sheet_refusal bytes.now (length out.old) }
-    ensures count { written_count result ≡ unless_refused (sheet_refusal bytes.now (length out.old)) (length (sheet_text bytes.now)) 0 }
+pub fn write_sheet(bytes: &[u8], out: &mut [u8]) -> Result<usize, Refusal>
+    ensures value { Answers result (sheet_refusal bytes.now (length out.old)) (length (sheet_text bytes.now)) }
     ensures buffer { out.new ≡ sheet_after bytes.now out.old }
 {
     if LONGEST_SHEET <= out.len() {
         let all = put_sheet(out, 0, bytes);
-        return Written::Wrote(all);
+        return Ok(all);
     }
     let n = put_sheet(&mut out[..0], 0, bytes);
     if out.len() < n {
-        return Written::Refused(10);
+        return Err(Refusal::NoRoom);
     }
     put_sheet(out, 0, bytes);
-    Written::Wrote(n)
+    Ok(n)
 }

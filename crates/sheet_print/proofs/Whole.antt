@@ -6,11 +6,10 @@ use lib.Seq.{take-append_seam}
 use Rattle.std.specs.Io.KnownBytes.{Appends, Consumes, IsAtEnd}
 use Rattle.lists.specs.Refusals.{unless_refused}
 use Rattle.buffer.specs.Bytes.{Bytes}
-use Rattle.buffer.specs.declared.Written.{Written}
-use Rattle.buffer.specs.declared.Written.TheVariants.{Wrote, Refused}
-use Rattle.buffer.specs.Writing.{wrote_unless}
-use Rattle.buffer.proofs.Writing.{wrote-size}
-use Rattle.sheet.specs.Sheet.{sheet_text, sheet_refusal, write_sheet_of, sheet_after}
+use Rattle.refusal.specs.declared.Refusal.{Refusal}
+use Rattle.refusal.specs.Numbers.{number}
+use Rattle.refusal.proofs.Laws.{names}
+use Rattle.sheet.specs.Sheet.{sheet_text, sheet_refusal, sheet_after}
 use Rattle.sheet.proofs.Promises.{sheet-short}
 
 -- ---- a buffer with room for every sheet
@@ -22,18 +21,14 @@ module _ (bytes : List ℕ) (s : Bytes bytes) (room : ℕ) (h : 47369 ≤ room) 
       let k : length (sheet_text bytes) ≤ 47369 = sheet-short bytes s in
       rw (le-ltb room (length (sheet_text bytes)) (omega arith))
 
-  pub never_refused : (k : ℕ) → Refused k ≡ write_sheet_of bytes room → ⊥
-  unfolding write_sheet_of wrote_unless unless_refused
-  never_refused k e =
-      let w : ◌≡◌ {A = Written} (Refused k) (Wrote (length (sheet_text bytes))) = rw fits at e in
-      cc
+  pub never_refused : (r : Refusal) → number r ≡ sheet_refusal bytes room → ⊥
+  never_refused r e = names.none_zero r (e ∙ fits)
 
 -- what stands at the start of the buffer
-pub shown : (bytes out : List ℕ) → Bytes bytes → 47369 ≤ length out → (n : ℕ) → Wrote n ≡ write_sheet_of bytes (length out) → (text : List ℕ) → text ≡ sheet_after bytes out
+pub shown : (bytes out : List ℕ) → Bytes bytes → 47369 ≤ length out → (n : ℕ) → n ≡ length (sheet_text bytes) → (text : List ℕ) → text ≡ sheet_after bytes out
     → take n text ≡ sheet_text bytes
-unfolding write_sheet_of sheet_after unless_refused
-shown bytes out s h n e text f =
-    let size : n ≡ length (sheet_text bytes) = (wrote-size n (sheet_refusal bytes (length out)) (length (sheet_text bytes)) (sym e)).1 in
+unfolding sheet_after unless_refused
+shown bytes out s h n size text f =
     let laid = rw (fits bytes s (length out) h) at f in
     ap (take n) laid ∙ rw size (take-append_seam (sheet_text bytes) _)
 

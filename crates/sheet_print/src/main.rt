@@ -5,7 +5,6 @@ ghost use Rattle.std.specs.Prelude.{OnOk, IfSome};
 ghost use Rattle.std.specs.Io.KnownBytes.{Appends};
 ghost use Rattle.sheet.specs.Sheet.{sheet_text};
 
-use buffer::Written;
 use input_read::read_full;
 use std::io::{Read, Write};
 use std::{fmt, io};
@@ -32,11 +31,11 @@ fn show<W: Write>(output: &mut W, input: &[u8]) -> Result<(), Failure>
 {
     let mut text = [0u8; 65536];
     match sheet::write_sheet(input, &mut text) {
-        Written::Wrote(n) => match output.write_all(&text[..n]) {
+        Ok(n) => match output.write_all(&text[..n]) {
             Ok(()) => Ok(()),
             Err(error) => Err(Failure::Output(error)),
         },
-        Written::Refused(_) => unreachable!(),
+        Err(_) => unreachable!(),
     }
 }
 

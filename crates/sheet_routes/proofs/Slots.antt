@@ -15,7 +15,12 @@ use Rattle.lists.proofs.Bools.{both_ways}
 use Rattle.route_links.specs.Arrays.{net}
 use Rattle.route_search.specs.Private.{places_refusal, routes_over}
 use Rattle.route_search.proofs.Telling.{too_many, no_place, places-right}
-use Rattle.route_list.specs.Listing.{slot_of, slots_of, slot_room, list_refusal, list_count, list_more, list_answer, list_after}
+use Rattle.route_list.specs.Listing.{slot_of, slots_of, slot_room, list_refusal, list_count, list_more, list_answer, list_after, listing_of}
+use Rattle.std.specs.Prelude.{Result, Ok, Err}
+use Rattle.std.specs.Result.{result_unwrap_or}
+use Rattle.refusal.specs.declared.Refusal.{Refusal}
+use Rattle.refusal.specs.Numbers.{Answers}
+use Rattle.refusal.proofs.Laws.{names}
 use Rattle.route_list.specs.declared.Listed.{Listed}
 use Rattle.route_list.specs.Private.{list_refusal_over}
 use Rattle.route_list.proofs.Slots.{Short, short-take, length-slot, length-slots, slot_at, all_short}
@@ -152,7 +157,7 @@ module _ (ends : List (List ℕ)) (ways : List ℕ) (links from to : ℕ) (buf :
   abbrev all : List (List ℕ)
   all = routes_over ends ways links from to
 
-  known-refused : (slots : List ℕ) (l : Listed) → (k : ℕ) → (k ≡ 0 → ⊥) → routes_held ends ways links from to ≡ [] → l ≡ list_answer k (routes_over ends ways links from to) (length buf) → Known ends ways links from to room slots l
+  known-refused : (slots : List ℕ) (l : Listed) → (k : ℕ) → (k ≡ 0 → ⊥) → routes_held ends ways links from to ≡ [] → l ≡ listing_of (list_answer k (routes_over ends ways links from to) (length buf)) → Known ends ways links from to room slots l
   unfolding list_answer list_count list_more unless_refused routes_from
   known-refused slots l zero ne e w = absurd (ne refl)
   known-refused slots l (suc k) ne e w =
@@ -164,7 +169,7 @@ module _ (ends : List (List ℕ)) (ways : List ℕ) (links from to : ℕ) (buf :
       }
 
   known-listed : (slots : List ℕ) (l : Listed) → (k : ℕ) → k ≡ 0 → routes_held ends ways links from to ≡ routes_over ends ways links from to → Short (routes_over ends ways links from to)
-      → l ≡ list_answer k (routes_over ends ways links from to) (length buf) → slots ≡ list_after k (routes_over ends ways links from to) buf → Known ends ways links from to room slots l
+      → l ≡ listing_of (list_answer k (routes_over ends ways links from to) (length buf)) → slots ≡ list_after k (routes_over ends ways links from to) buf → Known ends ways links from to room slots l
   unfolding list_answer list_count list_more list_after unless_refused
   known-listed slots l (suc k) z e s w v = absurd (omega arith)
   known-listed slots l zero z e s w v =
@@ -187,7 +192,7 @@ module _ (ends : List (List ℕ)) (ways : List ℕ) (links from to : ℕ) (buf :
       }
 
   pub known : 16 ≤ length buf → (slots : List ℕ) (l : Listed)
-      → l ≡ list_answer (list_refusal_over ends ways links from to (length buf)) (routes_over ends ways links from to) (length buf)
+      → l ≡ listing_of (list_answer (list_refusal_over ends ways links from to (length buf)) (routes_over ends ways links from to) (length buf))
       → slots ≡ list_after (list_refusal_over ends ways links from to (length buf)) (routes_over ends ways links from to) buf → Known ends ways links from to room slots l
   known big slots l w v = go (outcome ends ways links from to (length buf) big)
     where
@@ -195,11 +200,21 @@ module _ (ends : List (List ℕ)) (ways : List ℕ) (links from to : ℕ) (buf :
       go (refused ne e) = known-refused slots l refusal ne e w
       go (listed z e s) = known-listed slots l refusal z e s w v
 
+-- where nothing is listed there is none, and nothing more
+none-listed : (x : Result Listed Refusal) (k : ℕ) (rs : List (List ℕ)) (n : ℕ) → Answers x k (listing_of (list_answer k rs n))
+    → result_unwrap_or x (record { count = 0; more = false }) ≡ listing_of (list_answer k rs n)
+unfolding list_answer list_count list_more unless_refused
+none-listed (Ok l) k rs n h = h.1
+none-listed (Err r) zero rs n h = absurd (names.none_zero r h)
+none-listed (Err r) (suc k) rs n h = refl
+
 -- of n bytes that are zeros
-pub known-zeros : (ends : List (List ℕ)) (ways : List ℕ) (links from to n room : ℕ) → slot_room n ≡ room → 16 ≤ n → (slots : List ℕ) (l : Listed)
-    → l ≡ list_answer (list_refusal_over ends ways links from to (length {A = ℕ} (replicate n 0))) (routes_over ends ways links from to) (length {A = ℕ} (replicate n 0))
+pub known-zeros : (ends : List (List ℕ)) (ways : List ℕ) (links from to n room : ℕ) → slot_room n ≡ room → 16 ≤ n → (slots : List ℕ) (x : Result Listed Refusal) (l : Listed)
+    → l ≡ result_unwrap_or x (record { count = 0; more = false })
+    → Answers x (list_refusal_over ends ways links from to (length {A = ℕ} (replicate n 0)))
+    (listing_of (list_answer (list_refusal_over ends ways links from to (length {A = ℕ} (replicate n 0))) (routes_over ends ways links from to) (length {A = ℕ} (replicate n 0))))
     → slots ≡ list_after (list_refusal_over ends ways links from to (length {A = ℕ} (replicate n 0))) (routes_over ends ways links from to) (replicate n 0)
     → Known ends ways links from to room slots l
-known-zeros ends ways links from to n room q h slots l w v =
+known-zeros ends ways links from to n room q h slots x l u w v =
     let e = length-replicate {A = ℕ} n 0 in
-    known ends ways links from to (replicate n 0) room (ap slot_room e ∙ q) (omega arith) slots l w v
+    known ends ways links from to (replicate n 0) room (ap slot_room e ∙ q) (omega arith) slots l (u ∙ none-listed x _ _ _ w) v

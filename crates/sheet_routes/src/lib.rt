@@ -90,13 +90,18 @@ pub fn put_routes(
 ) -> usize
     ensures { Laid out.old at (list_text most_routes (routes_held ends ways links from to)) out.new result }
 {
+    // A refusal, as where there is no route, lists none.
+    let none = Listed {
+        count: 0,
+        more: false,
+    };
     // Most charts have few routes, and a small buffer is soon made.
     let mut few = [0u8; SLOT_SIZE * FEW_ROUTES];
-    let l = list(ends, ways, links, from, to, &mut few);
+    let l = list(ends, ways, links, from, to, &mut few).unwrap_or(none);
     if !l.more {
         return put_listed(out, at, &few, l);
     }
     let mut slots = [0u8; SLOT_SIZE * MOST_ROUTES];
-    let l = list(ends, ways, links, from, to, &mut slots);
+    let l = list(ends, ways, links, from, to, &mut slots).unwrap_or(none);
     put_listed(out, at, &slots, l)
 }

@@ -14,8 +14,12 @@ use Rattle.address.specs.declared.Address.{Address}
 use Rattle.address.specs.Address.{in_range}
 use Rattle.table.specs.declared.Entry.{Entry}
 use Rattle.table.specs.declared.Table.{Table}
-use Rattle.table.specs.declared.Choice.{Choice}
-use Rattle.table.specs.declared.Choice.TheVariants.{Local, Out, Refused}
+use Rattle.std.specs.Prelude.{Result, Ok, Err}
+use Rattle.refusal.specs.declared.Refusal.{Refusal}
+use Rattle.refusal.specs.Numbers.{number_in}
+use Rattle.table.specs.declared.Choice.{Choice as Taken}
+use Rattle.table.specs.declared.Choice.TheVariants.{Local as TakenHere, Out as TakenOut}
+use Rattle.table.specs.Choice.{Choice, Local, Out, Refused, choice_in}
 use Rattle.table.specs.Table.{no_entry, entry_at, is_own, qualifies, qualifies_at, has_route, out_port, out_choice, entry_in_range, stray_entry, table_in_range, call_in_range, choose_of, choose_refusal, choose_port, choice_refusal, choice_local, choice_port}
 use Rattle.table.specs.Private.{choice_for, choice_for_refusal}
 
@@ -130,24 +134,30 @@ by_tests true true true way here out = (refl, refl, refl)
 by_tests true true false true here out = (refl, refl, refl)
 by_tests true true false false here out = (refl, refl, refl)
 
+-- an answer has the number of its choice
+pub number-told : (r : Result Taken Refusal) → choice_refusal (choice_in r) ≡ number_in r
+number-told (Ok (TakenHere p)) = refl
+number-told (Ok (TakenOut p)) = refl
+number-told (Err k) = refl
+
 -- all that `choose` promises, from its answer
-pub choose-told : (t : Table) (d : Address) (arrival : Port) {r : Choice} → r ≡ choose_of t d arrival
-    → (r ≡ choose_of t d arrival)
-    × ((choice_refusal r ≡ choose_refusal t d arrival)
-    × ((choice_local r ≡ unless_refused (choose_refusal t d arrival) (is_own t d) false)
-    × (choice_port r ≡ unless_refused (choose_refusal t d arrival) (choose_port t d arrival) 0)))
+pub choose-told : (t : Table) (d : Address) (arrival : Port) (r : Result Taken Refusal) → choice_in r ≡ choose_of t d arrival
+    → (choice_in r ≡ choose_of t d arrival)
+    × ((number_in r ≡ choose_refusal t d arrival)
+    × ((choice_local (choice_in r) ≡ unless_refused (choose_refusal t d arrival) (is_own t d) false)
+    × (choice_port (choice_in r) ≡ unless_refused (choose_refusal t d arrival) (choose_port t d arrival) 0)))
 unfolding choose_of out_choice choose_refusal choose_port
-choose-told t d arrival e =
+choose-told t d arrival r e =
     let b = by_tests (table_in_range t) (call_in_range d arrival) (is_own t d) (has_route t d arrival) d.port (out_port t d arrival) in
-    (e, (ap choice_refusal e ∙ b.0, (ap choice_local e ∙ b.1, ap choice_port e ∙ b.2)))
+    (e, (sym (number-told r) ∙ ap choice_refusal e ∙ b.0, (ap choice_local e ∙ b.1, ap choice_port e ∙ b.2)))
 
 -- all that `choice_for` promises, from its answer
-pub tested-told : (t : Table) (d : Address) (arrival : Port) {r : Choice} → r ≡ choice_for t d arrival
-    → (r ≡ choice_for t d arrival)
-    × ((choice_refusal r ≡ choice_for_refusal t d arrival)
-    × ((choice_local r ≡ unless_refused (choice_for_refusal t d arrival) (is_own t d) false)
-    × (choice_port r ≡ unless_refused (choice_for_refusal t d arrival) (choose_port t d arrival) 0)))
+pub tested-told : (t : Table) (d : Address) (arrival : Port) (r : Result Taken Refusal) → choice_in r ≡ choice_for t d arrival
+    → (choice_in r ≡ choice_for t d arrival)
+    × ((number_in r ≡ choice_for_refusal t d arrival)
+    × ((choice_local (choice_in r) ≡ unless_refused (choice_for_refusal t d arrival) (is_own t d) false)
+    × (choice_port (choice_in r) ≡ unless_refused (choice_for_refusal t d arrival) (choose_port t d arrival) 0)))
 unfolding choice_for out_choice choice_for_refusal choose_port
-tested-told t d arrival e =
+tested-told t d arrival r e =
     let b = by_tests (leb t.count 32) true (is_own t d) (has_route t d arrival) d.port (out_port t d arrival) in
-    (e, (ap choice_refusal e ∙ b.0, (ap choice_local e ∙ b.1, ap choice_port e ∙ b.2)))
+    (e, (sym (number-told r) ∙ ap choice_refusal e ∙ b.0, (ap choice_local e ∙ b.1, ap choice_port e ∙ b.2)))

@@ -14,8 +14,7 @@ use Rattle.address.specs.declared.Address.{Address}
 use Rattle.address.specs.Address.{station_of, station_in_range, same_station}
 use Rattle.table.specs.declared.Table.{Table}
 use Rattle.table.specs.declared.Entry.{Entry}
-use Rattle.table.specs.declared.Choice.{Choice}
-use Rattle.table.specs.declared.Choice.TheVariants.{Local, Out, Refused}
+use Rattle.table.specs.Choice.{Choice, Local, Out, Refused}
 use Rattle.table.specs.Table.{most_entries, entry_at, is_own, qualifies, qualifies_at, has_route, out_port, out_choice, entry_in_range, stray_entry, table_in_range, call_in_range, choose_of, choice_refusal, choice_local}
 use Rattle.table.specs.Promises.{Taken, Qualifies, First, NextRoute, NextRoutes, ChoiceAnswers, EveryChoice, choose_refusals, ChooseNumbers, Alike, PastCount, EntriesPastCount}
 use Rattle.table.proofs.Laws.{out-found, out_none, chosen-50, chosen-51, chosen-here, chosen-out, choice_by}

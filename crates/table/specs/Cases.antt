@@ -6,7 +6,7 @@ use Rattle.table.specs.declared.Target.{Target}
 use Rattle.table.specs.declared.Target.TheVariants.{One, Brigade, Everything}
 use Rattle.table.specs.declared.Entry.{Entry}
 use Rattle.table.specs.declared.Table.{Table}
-use Rattle.table.specs.declared.Choice.TheVariants.{Local, Out, Refused}
+use Rattle.table.specs.Choice.{Local, Out, Refused}
 use Rattle.table.specs.Table.{no_entry, entry_at, is_own, covers, qualifies, qualifies_at, has_route, out_port, out_choice, target_in_range, entry_in_range, stray_entry, table_in_range, call_in_range, choose_of, choose_refusal, choose_port, choice_refusal, choice_local, choice_port}
 
 -- an entry

@@ -1,3 +1,4 @@
+pub mod Choice
 pub mod Table
 pub mod Promises
 pub mod Private

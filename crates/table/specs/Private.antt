@@ -4,8 +4,7 @@ use Rattle.lists.specs.Refusals.{refuse}
 use Rattle.address.specs.declared.Port.{Port}
 use Rattle.address.specs.declared.Address.{Address}
 use Rattle.table.specs.declared.Table.{Table}
-use Rattle.table.specs.declared.Choice.{Choice}
-use Rattle.table.specs.declared.Choice.TheVariants.{Local, Refused}
+use Rattle.table.specs.Choice.{Choice, Local, Refused}
 use Rattle.table.specs.Table.{most_entries, is_own, has_route, out_choice}
 
 -- local at the destination's port, or out. A table that counts more entries than it has places is 50 here too

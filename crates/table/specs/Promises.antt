@@ -4,7 +4,7 @@ use Rattle.lists.specs.Refusals.{among}
 use Rattle.address.specs.declared.Port.{Port}
 use Rattle.address.specs.declared.Address.{Address}
 use Rattle.table.specs.declared.Table.{Table}
-use Rattle.table.specs.declared.Choice.TheVariants.{Local, Out, Refused}
+use Rattle.table.specs.Choice.{Local, Out, Refused}
 use Rattle.table.specs.Table.{entry_at, is_own, covers, has_route, table_in_range, call_in_range, choose_of, choice_refusal}
 
 module _ (t : Table) (d : Address) (arrival : Port) where

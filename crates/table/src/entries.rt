@@ -1,9 +1,11 @@
 // The entry by which a message leaves.
 ghost use Rattle.std.specs.Prelude.{◌≡◌, ◌≤◌};
+ghost use Rattle.table.specs.Choice.{choice_in};
 ghost use Rattle.table.specs.Table.{most_entries, covers, qualifies, out_choice};
 
 use crate::{Choice, Entry, Table, Target};
 use address::{Address, Port, Station};
+use refusal::Refusal;
 
 // Whether the target takes in the destination.
 fn covers(g: Target, d: Address) -> bool
@@ -26,14 +28,14 @@ pub fn qualifies(e: Entry, d: Address, arrival: Port) -> bool
 }
 
 // Out by the first entry that qualifies, or 52.
-pub fn out_choice(t: Table, d: Address, arrival: Port) -> Choice
+pub fn out_choice(t: Table, d: Address, arrival: Port) -> Result<Choice, Refusal>
     requires { t.count ≤ most_entries }
-    ensures { result ≡ out_choice t d arrival }
+    ensures { choice_in result ≡ out_choice t d arrival }
 {
     for e in &t.entries[..t.count as usize] {
         if qualifies(*e, d, arrival) {
-            return Choice::Out(e.port);
+            return Ok(Choice::Out(e.port));
         }
     }
-    Choice::Refused(52)
+    Err(Refusal::NoEntry)
 }

@@ -3,11 +3,14 @@
 
 ghost use Rattle.std.specs.Prelude.{◌≡◌, false};
 ghost use Rattle.lists.specs.Refusals.{unless_refused};
-ghost use Rattle.table.specs.Table.{no_entry, own_station, is_own, choose_of, choice_refusal, choice_local, choice_port, choose_refusal, choose_port};
+ghost use Rattle.refusal.specs.Numbers.{number_in};
+ghost use Rattle.table.specs.Choice.{choice_in};
+ghost use Rattle.table.specs.Table.{no_entry, own_station, is_own, choose_of, choice_local, choice_port, choose_refusal, choose_port};
 ghost use Rattle.table.specs.Private.{choice_for, choice_for_refusal};
 
 use address::{Address, LARGEST_PORT, Node, Port, Station};
 use entries::out_choice;
+use refusal::Refusal;
 
 mod entries;
 mod ranges;
@@ -39,12 +42,11 @@ pub struct Table {
     pub entries: [Entry; 32],
 }
 
-// For this node at the port, or out by the port, or a refusal.
+// For this node at the port, or out by the port.
 #[derive(Clone, Copy)]
 pub enum Choice {
     Local(Port),
     Out(Port),
-    Refused(u8),
 }
 
 // What stands at a place without an entry: everything, port 0, off.
@@ -69,33 +71,33 @@ fn own_station(t: Table) -> Station
 }
 
 // The choice for a table, a destination and a port that were found in range: local, or out, or 52. Only a count past the last place is refused here too, with 50.
-pub fn choice_for(table: Table, destination: Address, arrival: Port) -> Choice
-    ensures value { result ≡ choice_for table destination arrival }
-    ensures refusal { choice_refusal result ≡ choice_for_refusal table destination arrival }
-    ensures local { choice_local result ≡ unless_refused (choice_for_refusal table destination arrival) (is_own table destination) false }
-    ensures port { choice_port result ≡ unless_refused (choice_for_refusal table destination arrival) (choose_port table destination arrival) 0 }
+pub fn choice_for(table: Table, destination: Address, arrival: Port) -> Result<Choice, Refusal>
+    ensures value { choice_in result ≡ choice_for table destination arrival }
+    ensures refusal { number_in result ≡ choice_for_refusal table destination arrival }
+    ensures local { choice_local (choice_in result) ≡ unless_refused (choice_for_refusal table destination arrival) (is_own table destination) false }
+    ensures port { choice_port (choice_in result) ≡ unless_refused (choice_for_refusal table destination arrival) (choose_port table destination arrival) 0 }
 {
     if MOST_ENTRIES < table.count {
-        return Choice::Refused(50);
+        return Err(Refusal::BadTable);
     }
     if address::same_station(own_station(table), address::station_of(destination)) {
-        return Choice::Local(destination.port);
+        return Ok(Choice::Local(destination.port));
     }
     out_choice(table, destination, arrival)
 }
 
 // Where a message for the destination goes that came in by the arrival port (0: it began here), or 50, 51 or 52.
-pub fn choose(table: Table, destination: Address, arrival: Port) -> Choice
-    ensures value { result ≡ choose_of table destination arrival }
-    ensures refusal { choice_refusal result ≡ choose_refusal table destination arrival }
-    ensures local { choice_local result ≡ unless_refused (choose_refusal table destination arrival) (is_own table destination) false }
-    ensures port { choice_port result ≡ unless_refused (choose_refusal table destination arrival) (choose_port table destination arrival) 0 }
+pub fn choose(table: Table, destination: Address, arrival: Port) -> Result<Choice, Refusal>
+    ensures value { choice_in result ≡ choose_of table destination arrival }
+    ensures refusal { number_in result ≡ choose_refusal table destination arrival }
+    ensures local { choice_local (choice_in result) ≡ unless_refused (choose_refusal table destination arrival) (is_own table destination) false }
+    ensures port { choice_port (choice_in result) ≡ unless_refused (choose_refusal table destination arrival) (choose_port table destination arrival) 0 }
 {
     if !table_in_range(table) {
-        return Choice::Refused(50);
+        return Err(Refusal::BadTable);
     }
     if !(address::in_range(destination) & (arrival.0 <= LARGEST_PORT)) {
-        return Choice::Refused(51);
+        return Err(Refusal::BadDestination);
     }
     choice_for(table, destination, arrival)
 }

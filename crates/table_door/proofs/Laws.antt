@@ -5,7 +5,7 @@ use mathlib.Core.Bool.{cond}
 use mathlib.Core.List.{List}
 use Rattle.address.specs.declared.Port.{Port}
 use Rattle.address.specs.declared.Address.{Address}
-use Rattle.table.specs.declared.Choice.{Choice}
+use Rattle.table.specs.Choice.{Choice}
 use Rattle.table.specs.declared.Table.{Table}
 use Rattle.table.specs.Table.{choice_refusal, choice_local, choice_port, choose_of}
 use Rattle.table_image.specs.Table.{table_of}

@@ -2,7 +2,7 @@
 use Rattle.std.specs.Prelude.{ℕ, cond, List}
 use Rattle.address.specs.declared.Port.{Port}
 use Rattle.address.specs.declared.Address.{Address}
-use Rattle.table.specs.declared.Choice.{Choice}
+use Rattle.table.specs.Choice.{Choice}
 use Rattle.table.specs.Table.{choose_of, choice_refusal, choice_local, choice_port}
 use Rattle.table_image.specs.Table.{table_of}
 

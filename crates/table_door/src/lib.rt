@@ -30,15 +30,15 @@ pub fn pz_choose(
     };
     let choice = table::choose(t, d, Port(arrival));
     match choice {
-        Choice::Local(p) => {
+        Ok(Choice::Local(p)) => {
             *local = 1;
             *out = p.0;
             0
         }
-        Choice::Out(p) => {
+        Ok(Choice::Out(p)) => {
             *out = p.0;
             0
         }
-        Choice::Refused(n) => n,
+        Err(r) => r.number(),
     }
 }

@@ -17,7 +17,7 @@ use Rattle.address.specs.Address.{station_in_range, same_station}
 use Rattle.table.specs.declared.Entry.{Entry}
 use Rattle.table.specs.declared.Table.{Table}
 use Rattle.table.specs.declared.Target.TheVariants.{Brigade, Everything}
-use Rattle.table.specs.declared.Choice.TheVariants.{Out, Refused}
+use Rattle.table.specs.Choice.{Out, Refused}
 use Rattle.table.specs.Table.{no_entry, entry_at, is_own, qualifies, qualifies_at, out_choice, target_in_range, entry_in_range, stray_entry, table_in_range}
 use Rattle.table.proofs.Laws.{out-found, out_none}
 use Rattle.table_image.specs.Table.{entry_count, target_of, entry_in, entry_held, stray_entry_in, stray_entry_held, readable_table, table_in, broken_table, table_of}

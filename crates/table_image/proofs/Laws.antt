@@ -9,7 +9,7 @@ use lib.Dec.{ltb}
 use lib.ListN.{length, get_or, length-append}
 use lib.Seq.{sets}
 use borrow.Author.Tests.{leb-true, lt-ltb, le-ltb}
-use Rattle.buffer.specs.Bytes.{word_at, word_bytes}
+use Rattle.buffer.specs.Bytes.{word_at}
 use Rattle.lists.specs.Places.{any_below, row, joined}
 use Rattle.lists.proofs.Bools.{all_three, bool-byte}
 use Rattle.lists.proofs.Places.{element-own, length-joined}

@@ -5,11 +5,14 @@ ghost use Rattle.std.specs.Prelude.{◌≡◌, true, false, not, ◌+◌, ◌≤
 ghost use Rattle.std.proofs.lemmas.List.Edits.{sets};
 ghost use Rattle.lists.specs.Places.{any_below, joined};
 ghost use Rattle.lists.specs.Refusals.{unless_refused};
-ghost use Rattle.table.specs.Table.{most_entries, entry_at, table_in_range, is_own, out_choice, choose_of, choose_refusal, choose_port, choice_refusal, choice_local, choice_port};
+ghost use Rattle.refusal.specs.Numbers.{number_in};
+ghost use Rattle.table.specs.Choice.{choice_in};
+ghost use Rattle.table.specs.Table.{most_entries, entry_at, table_in_range, is_own, out_choice, choose_of, choose_refusal, choose_port, choice_local, choice_port};
 ghost use Rattle.table_image.specs.Private.{ranged_entry_in, unranged_held};
 ghost use Rattle.table_image.specs.Table.{table_size, entries_start, entry_bytes, table_image, entry_count, target_of, entry_in, stray_entry_in, stray_entry_held, readable_table, table_of};
 
 use address::{Address, LARGEST_NODE, LARGEST_PORT, Node, Port};
+use refusal::Refusal;
 use table::{Choice, Entry, MOST_ENTRIES, Table, Target};
 
 pub const TABLE_SIZE: usize = 196;
@@ -188,35 +191,35 @@ pub fn image_in_range(b: &[u8]) -> bool
 }
 
 // The port of the first of the first n entries that qualifies, or 52.
-fn out_choice_in(b: &[u8], n: usize, d: Address, arrival: Port) -> Choice
+fn out_choice_in(b: &[u8], n: usize, d: Address, arrival: Port) -> Result<Choice, Refusal>
     requires readable { readable_table b.now ≡ true }
     requires counted { n ≡ entry_count b.now }
-    ensures { result ≡ out_choice (table_of b.now) d arrival }
+    ensures { choice_in result ≡ out_choice (table_of b.now) d arrival }
 {
     for i in 0..n {
         let e = entry_in(b, ENTRIES_START + ENTRY_SIZE * i);
         if table::qualifies(e, d, arrival) {
-            return Choice::Out(e.port);
+            return Ok(Choice::Out(e.port));
         }
     }
-    Choice::Refused(52)
+    Err(Refusal::NoEntry)
 }
 
 // Where a message for the destination goes that came in by the arrival port, by the table that the image stands for.
-pub fn choose_in(b: &[u8], d: Address, arrival: Port) -> Choice
-    ensures value { result ≡ choose_of (table_of b.now) d arrival }
-    ensures refusal { choice_refusal result ≡ choose_refusal (table_of b.now) d arrival }
-    ensures local { choice_local result ≡ unless_refused (choose_refusal (table_of b.now) d arrival) (is_own (table_of b.now) d) false }
-    ensures port { choice_port result ≡ unless_refused (choose_refusal (table_of b.now) d arrival) (choose_port (table_of b.now) d arrival) 0 }
+pub fn choose_in(b: &[u8], d: Address, arrival: Port) -> Result<Choice, Refusal>
+    ensures value { choice_in result ≡ choose_of (table_of b.now) d arrival }
+    ensures refusal { number_in result ≡ choose_refusal (table_of b.now) d arrival }
+    ensures local { choice_local (choice_in result) ≡ unless_refused (choose_refusal (table_of b.now) d arrival) (is_own (table_of b.now) d) false }
+    ensures port { choice_port (choice_in result) ≡ unless_refused (choose_refusal (table_of b.now) d arrival) (choose_port (table_of b.now) d arrival) 0 }
 {
     if !image_in_range(b) {
-        return Choice::Refused(50);
+        return Err(Refusal::BadTable);
     }
     if !(address::in_range(d) & (arrival.0 <= LARGEST_PORT)) {
-        return Choice::Refused(51);
+        return Err(Refusal::BadDestination);
     }
     if (b[0] == d.brigade) & (buffer::word_at(b, 1) == d.node.0) {
-        return Choice::Local(d.port);
+        return Ok(Choice::Local(d.port));
     }
     out_choice_in(b, b[3] as usize, d, arrival)
 }

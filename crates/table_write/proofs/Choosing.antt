@@ -14,7 +14,7 @@ use Rattle.address.specs.declared.Station.{Station}
 use Rattle.address.specs.declared.Address.{Address}
 use Rattle.address.specs.Address.{station_of, station_in_range, in_range, same_station}
 use Rattle.table.specs.declared.Entry.{Entry}
-use Rattle.table.specs.declared.Choice.TheVariants.{Local, Out, Refused}
+use Rattle.table.specs.Choice.{Local, Out, Refused}
 use Rattle.table.specs.Table.{entry_at, is_own, covers, target_in_range, entry_in_range, stray_entry, table_in_range, call_in_range, choose_of}
 use Rattle.table.specs.Promises.{Taken, Qualifies, First}
 use Rattle.table.proofs.Laws.{chosen-here}

@@ -32,8 +32,7 @@ use Rattle.route_search.specs.Private.{routes_over}
 use Rattle.route_fewest.specs.Fewest.{fewest_of, head_of, fewest_from, first_link}
 use Rattle.route_fewest.specs.Private.{link_place, first_link_over, first_links_over}
 use Rattle.route_fewest.proofs.Hops.{first-nearer}
-use Rattle.table_write.specs.declared.TableWritten.{TableWritten}
-use Rattle.table_write.specs.Writing.{first_link_to, entries_by, table_with, table_for, table_refusal, no_table, write_table_of}
+use Rattle.table_write.specs.Writing.{TableWritten, first_link_to, entries_by, table_with, table_for, table_refusal, no_table, write_table_of}
 use Rattle.table_write.specs.Private.{link_of, link_in, table_over, first_link_kept, known_refusal, write_known_of}
 use Rattle.table_write.proofs.Entries.{entries-same}
 
@@ -95,7 +94,7 @@ abbrev missing : Nodes → ℕ → Bool
 missing ns a = leb ns.count a || leb 16 a
 
 module _ (c : Chart) (s : Station) {a : ℕ} (e : a ≡ station_place_for c.nodes s) where
-  pub known-none : missing c.nodes a ≡ true → ◌≡◌ {A = TableWritten} (record { refusal = 44; table = no_table }) (write_known_of c s)
+  pub known-none : missing c.nodes a ≡ true → 44 ≡ (write_known_of c s).refusal
   unfolding write_known_of known_refusal unless_refused
   known-none h = rw (← e, h)
 
@@ -112,12 +111,11 @@ module _ (c : Chart) (s : Station) {a : ℕ} (e : a ≡ station_place_for c.node
   pub known-table : missing c.nodes a ≡ false → {ends : List (List ℕ)} {ways first : List ℕ} {t : Table}
       → ends ≡ ends_for c.nodes c.links → ways ≡ passages_for c.links
       → first ≡ first_links_over ends ways c.links.count c.nodes.count a → t ≡ table_over c s first
-      → ◌≡◌ {A = TableWritten} (record { refusal = 0; table = t }) (write_known_of c s)
+      → ((write_known_of c s).refusal ≡ 0) × (t ≡ (write_known_of c s).table)
   unfolding write_known_of known_refusal unless_refused
   known-table h p w f q =
       rw (← e, h)
-      (ap (λ (x : Table). record { refusal = 0; table = x })
-      (q ∙ ap (table_over c s) (f ∙ (λ i. first_links_over (p i) (w i) c.links.count c.nodes.count (e i))) ∙ kept_table c s (known-few h)))
+      (refl, q ∙ ap (table_over c s) (f ∙ (λ i. first_links_over (p i) (w i) c.links.count c.nodes.count (e i))) ∙ kept_table c s (known-few h))
 
 -- ---- an accepted chart
 
@@ -171,12 +169,12 @@ same_answer {b' = b'} {t = t} {t' = t'} e h = rw e (go b' h)
     go false h = ap (answer false) (h refl)
 
 module _ (c : Chart) (s : Station) where
-  pub written-refused : {k : ℕ} → k ≡ chart_refusal c → (k ≡ 0 → ⊥) → ◌≡◌ {A = TableWritten} (record { refusal = k; table = no_table }) (write_table_of c s)
+  pub written-refused : {k : ℕ} → k ≡ chart_refusal c → (k ≡ 0 → ⊥) → k ≡ (write_table_of c s).refusal
   unfolding write_table_of table_refusal
   written-refused {k} e h =
       let q : table_refusal c s ≡ k = or-refused (chart_refusal c) (refuse 44 (not (has_node c.nodes s)) 0) (λ z. h (e ∙ z)) ∙ sym e in
-      sym (refused (record { refusal = 0; table = table_for c s }) (record { refusal = table_refusal c s; table = no_table }) _ (λ z. h (sym q ∙ z))
-      ∙ ap (λ (n : ℕ). record { refusal = n; table = no_table }) q)
+      sym (ap (λ (w : TableWritten). w.refusal)
+      (refused (record { refusal = 0; table = table_for c s }) (record { refusal = table_refusal c s; table = no_table }) _ (λ z. h (sym q ∙ z))) ∙ q)
 
   pub written_known : chart_refusal c ≡ 0 → write_known_of c s ≡ write_table_of c s
   unfolding write_table_of table_refusal write_known_of known_refusal

@@ -19,8 +19,7 @@ use Rattle.route.specs.All.{up_from, links_from, over, tries, routes, unmet, all
 use Rattle.chart_net.specs.Net.{station_place, goes_out, goes_back, far_end, routes_between}
 use Rattle.chart_net.specs.Cases.{turned}
 use Rattle.route_fewest.specs.Fewest.{or_fewer, fewest_of, head_of}
-use Rattle.table_write.specs.declared.TableWritten.{TableWritten}
-use Rattle.table_write.specs.Writing.{first_link_to, near_end, entry_over, entry_by, entries_by, table_with, table_for, table_refusal, no_table, write_table_of}
+use Rattle.table_write.specs.Writing.{TableWritten, first_link_to, near_end, entry_over, entry_by, entries_by, table_with, table_for, table_refusal, no_table, write_table_of}
 
 -- an entry, on, for node n of brigade 9, out by a port; and the table of such a node
 abbrev pub to_s : ℕ → ℕ → Entry

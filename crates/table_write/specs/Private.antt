@@ -8,8 +8,7 @@ use Rattle.chart.specs.declared.Chart.{Chart}
 use Rattle.chart.specs.Values.{most_nodes, most_links}
 use Rattle.chart_net.specs.Private.{station_place_for, ends_for, passages_for}
 use Rattle.route_fewest.specs.Private.{first_link_over}
-use Rattle.table_write.specs.declared.TableWritten.{TableWritten}
-use Rattle.table_write.specs.Writing.{entries_by, table_with, no_table}
+use Rattle.table_write.specs.Writing.{TableWritten, entries_by, table_with, no_table}
 
 -- a link's place, as it stands in the array of first links: 48 is none
 unfoldable pub link_of : ℕ → Option ℕ

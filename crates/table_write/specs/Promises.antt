@@ -6,7 +6,7 @@ use Rattle.address.specs.declared.Station.{Station}
 use Rattle.address.specs.declared.Address.{Address}
 use Rattle.address.specs.Address.{station_of}
 use Rattle.table.specs.declared.Target.TheVariants.{One}
-use Rattle.table.specs.declared.Choice.TheVariants.{Local, Out, Refused}
+use Rattle.table.specs.Choice.{Local, Out, Refused}
 use Rattle.table.specs.Table.{entry_at, table_in_range, call_in_range, choose_of}
 use Rattle.chart.specs.declared.Chart.{Chart}
 use Rattle.chart.specs.Values.{node_at, link_at, has_node}

@@ -15,7 +15,6 @@ use Rattle.chart.specs.Values.{no_station, node_at, link_at, has_node}
 use Rattle.chart_refuse.specs.Refusal.{chart_refusal}
 use Rattle.chart_net.specs.Net.{routes_between}
 use Rattle.route_fewest.specs.Fewest.{fewest_of, head_of}
-use Rattle.table_write.specs.declared.TableWritten.{TableWritten}
 
 -- ---- an entry
 
@@ -57,6 +56,11 @@ table_for c s = table_with s (entries_by (λ b. first_link_to c s (node_at c.nod
 -- the chart's number, as the chart writer gives it; then 44: the chart has no such node
 unfoldable pub table_refusal : Chart → Station → ℕ
 table_refusal c s = or_else (chart_refusal c) (refuse 44 (not (has_node c.nodes s)) 0)
+
+-- what is written: the number, and the table
+pub record TableWritten : Type 0 where
+  pub refusal : ℕ
+  pub table : Table
 
 -- beside a refusal: a table of no station, without entries
 unfoldable pub no_table : Table

@@ -3,19 +3,14 @@
 
 ghost use Rattle.std.specs.Prelude.{◌≡◌, ◌≤◌};
 ghost use Rattle.chart.specs.Values.{most_nodes};
-ghost use Rattle.table_write.specs.Writing.{near_end, entry_over, no_table, write_table_of};
+ghost use Rattle.refusal.specs.Numbers.{Answers};
+ghost use Rattle.table_write.specs.Writing.{near_end, entry_over, write_table_of};
 ghost use Rattle.table_write.specs.Private.{table_over, write_known_of};
 
-use address::{Address, Node, Station};
+use address::{Address, Station};
 use chart::{Chart, Link, MOST_LINKS, MOST_NODES};
+use refusal::Refusal;
 use table::{Entry, Table, Target};
-
-// The number, and the table; beside a refusal one of no node, without entries.
-#[derive(Clone, Copy)]
-pub struct TableWritten {
-    pub refusal: u8,
-    pub table: Table,
-}
 
 // The end by which one who stands at a station leaves over a link.
 fn near_end(l: Link, s: Station) -> Address
@@ -60,45 +55,24 @@ fn table_over(c: Chart, s: Station, first: [u8; 16]) -> Table
     }
 }
 
-// No table: what stands beside a refusal.
-fn no_table(refusal: u8) -> TableWritten
-    ensures { result ≡ record { refusal = refusal; table = no_table } }
-{
-    TableWritten {
-        refusal,
-        table: Table {
-            brigade: 0,
-            count: 0,
-            node: Node(0),
-            entries: [table::no_entry(); 32],
-        },
-    }
-}
-
 // The table of one of the nodes, for a chart that is known to be right; or 44.
-pub fn write_known(c: Chart, s: Station) -> TableWritten
-    ensures { result ≡ write_known_of c s }
+pub fn write_known(c: Chart, s: Station) -> Result<Table, Refusal>
+    ensures { Answers result (write_known_of c s).refusal (write_known_of c s).table }
 {
     let a = chart_net::place_of(c.nodes, s);
     if (c.nodes.count <= a) | (MOST_NODES <= a) {
-        return no_table(44);
+        return Err(Refusal::NoNode);
     }
     let ends = chart_net::ends_of(c);
     let ways = chart_net::passages_for(c.links);
     let first = route_fewest::first_links(ends, ways, c.links.count as usize, c.nodes.count, a);
-    TableWritten {
-        refusal: 0,
-        table: table_over(c, s, first),
-    }
+    Ok(table_over(c, s, first))
 }
 
 // The table of one of the chart's nodes, written from the chart; or a refusal.
-pub fn write_table(c: Chart, s: Station) -> TableWritten
-    ensures { result ≡ write_table_of c s }
+pub fn write_table(c: Chart, s: Station) -> Result<Table, Refusal>
+    ensures { Answers result (write_table_of c s).refusal (write_table_of c s).table }
 {
-    let refusal = chart_refuse::chart_refusal(c);
-    if refusal != 0 {
-        return no_table(refusal);
-    }
+    chart_refuse::chart_refusal(c)?;
     write_known(c, s)
 }

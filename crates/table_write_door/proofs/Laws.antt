@@ -20,11 +20,13 @@ use Rattle.table_image.proofs.Laws.{image-size}
 use Rattle.chart.specs.declared.Chart.{Chart}
 use Rattle.chart.specs.Values.{has_node}
 use Rattle.chart_refuse.specs.Refusal.{chart_refusal}
-use Rattle.chart_read.specs.declared.ChartRead.{ChartRead}
+use Rattle.refusal.specs.declared.Refusal.{Refusal}
+use Rattle.refusal.specs.declared.Fault.{Fault}
+use Rattle.refusal.specs.Numbers.{number}
+use Rattle.refusal.proofs.Laws.{names}
 use Rattle.chart_read.specs.Reading.{read_chart_of}
 use Rattle.chart_write.proofs.Promises.{write_undoes_read, place-near}
-use Rattle.table_write.specs.declared.TableWritten.{TableWritten}
-use Rattle.table_write.specs.Writing.{table_for, table_refusal, no_table, write_table_of}
+use Rattle.table_write.specs.Writing.{TableWritten, table_for, table_refusal, no_table, write_table_of}
 use Rattle.table_write.specs.Private.{write_known_of}
 use Rattle.table_write.proofs.Known.{written_known}
 use Rattle.table_write_door.specs.Calls.{pz_table_refusal, pz_table_place, pz_table_image}
@@ -57,66 +59,66 @@ module _ (bytes : List ℕ) (s : Station) (image : List ℕ) where
   refuses : {k : ℕ} → k ≡ pz_table_refusal bytes s (length image) → (k ≡ 0 → ⊥) → Gives k image
   refuses e h = record { number = e; table = sym (left (λ z. h (e ∙ z))) }
 
-  module _ {r : ChartRead} (g : r ≡ read_chart_of bytes) where
-    refusal : r.refusal ≡ (read_chart_of bytes).refusal
-    refusal = ap (λ (x : ChartRead). x.refusal) g
+  -- of a chart that is not read
+  module _ (f : Fault) (g : (number f.refusal ≡ (read_chart_of bytes).refusal) × (f.place ≡ (read_chart_of bytes).place)) where
+    pub near : Bytes bytes → f.place ≤ 1113
+    near b = rw g.1 (place-near bytes b)
 
-    placed : r.place ≡ pz_table_place bytes
+    placed : f.place ≡ pz_table_place bytes
     unfolding pz_table_place
-    placed = ap (λ (x : ChartRead). x.place) g
+    placed = g.1
 
-    pub told : {k : ℕ} {o : List ℕ} → Gives k o
-        → (k ≡ pz_table_refusal bytes s (length image)) × (r.place ≡ pz_table_place bytes) × (o ≡ pz_table_image bytes s image)
-    told t = (t.number, placed, t.table)
-
-    pub near : Bytes bytes → r.place ≤ 1113
-    near b = rw g (place-near bytes b)
-
-    pub unread : (r.refusal ≡ 0 → ⊥) → Gives r.refusal image
+    pub unread : {k : ℕ} → k ≡ number f.refusal
+        → (k ≡ pz_table_refusal bytes s (length image)) × (f.place ≡ pz_table_place bytes) × (image ≡ pz_table_image bytes s image)
     unfolding pz_table_refusal
-    unread h = refuses (refusal ∙ sym (or-refused (read_chart_of bytes).refusal _ (λ z. h (refusal ∙ z)))) h
+    unread e =
+        let some : (read_chart_of bytes).refusal ≡ 0 → ⊥ = λ z. names.none_zero f.refusal (g.0 ∙ z) in
+        let t = refuses (e ∙ g.0 ∙ sym (or-refused (read_chart_of bytes).refusal _ some)) (λ z. names.none_zero f.refusal (sym e ∙ z)) in
+        (t.number, placed, t.table)
 
-    module _ (b : Bytes bytes) (z : r.refusal ≡ 0) {w : TableWritten} (e : w ≡ write_known_of r.chart s) where
-      read : (read_chart_of bytes).refusal ≡ 0
-      read = sym refusal ∙ z
+  -- of one that is
+  module _ (b : Bytes bytes) {c : Chart} (g : ((read_chart_of bytes).refusal ≡ 0) × (((read_chart_of bytes).place ≡ 0) × (c ≡ (read_chart_of bytes).chart))) where
+    pub told : {k : ℕ} {o : List ℕ} → Gives k o → (k ≡ pz_table_refusal bytes s (length image)) × (0 ≡ pz_table_place bytes) × (o ≡ pz_table_image bytes s image)
+    unfolding pz_table_place
+    told t = (t.number, sym g.1.0, t.table)
 
-      wrote : (x : Bool) → has_node (read_chart_of bytes).chart.nodes s ≡ x → w ≡ table_or44 x (table_for (read_chart_of bytes).chart s)
-      wrote x h =
-          let c = (read_chart_of bytes).chart in
-          e ∙ ap (λ (q : ChartRead). write_known_of q.chart s) g ∙ written_known c s (right bytes b read) ∙ table-or c s (right bytes b read) x h
+    wrote : (x : Bool) → has_node (read_chart_of bytes).chart.nodes s ≡ x → write_known_of c s ≡ table_or44 x (table_for (read_chart_of bytes).chart s)
+    wrote x h =
+        let r = (read_chart_of bytes).chart in
+        ap (λ (q : Chart). write_known_of q s) g.1.1 ∙ written_known r s (right bytes b g.0) ∙ table-or r s (right bytes b g.0) x h
 
-      pub nobody : (w.refusal ≡ 0 → ⊥) → Gives w.refusal image
-      unfolding pz_table_refusal unless_refused
-      nobody h = go (has_node (read_chart_of bytes).chart.nodes s) refl
+    pub nobody : (r : Refusal) → number r ≡ (write_known_of c s).refusal → {k : ℕ} → k ≡ number r → Gives k image
+    unfolding pz_table_refusal unless_refused
+    nobody r e {k} f = go (has_node (read_chart_of bytes).chart.nodes s) refl
+      where
+        go : (x : Bool) → has_node (read_chart_of bytes).chart.nodes s ≡ x → Gives k image
+        go true q = absurd (names.none_zero r (e ∙ ap (λ (t : TableWritten). t.refusal) (wrote true q)))
+        go false q = refuses (f ∙ e ∙ ap (λ (t : TableWritten). t.refusal) (wrote false q) ∙ rw (g.0, q) refl) (λ z. names.none_zero r (sym f ∙ z))
+
+    module _ (y : (write_known_of c s).refusal ≡ 0) where
+      -- no refusal is no 44: the chart has the station
+      found : has_node (read_chart_of bytes).chart.nodes s ≡ true
+      unfolding unless_refused
+      found = go (has_node (read_chart_of bytes).chart.nodes s) refl
         where
-          go : (x : Bool) → has_node (read_chart_of bytes).chart.nodes s ≡ x → Gives w.refusal image
-          go true q = absurd (h (ap (λ (t : TableWritten). t.refusal) (wrote true q)))
-          go false q = refuses (ap (λ (t : TableWritten). t.refusal) (wrote false q) ∙ rw (read, q) refl) h
+          go : (x : Bool) → has_node (read_chart_of bytes).chart.nodes s ≡ x → has_node (read_chart_of bytes).chart.nodes s ≡ true
+          go true q = q
+          go false q = let n : ◌≡◌ {A = ℕ} 44 0 = sym (ap (λ (t : TableWritten). t.refusal) (wrote false q)) ∙ y in absurd (omega arith)
 
-      module _ (y : w.refusal ≡ 0) where
-        -- no refusal is no 44: the chart has the station
-        found : has_node (read_chart_of bytes).chart.nodes s ≡ true
-        unfolding unless_refused
-        found = go (has_node (read_chart_of bytes).chart.nodes s) refl
-          where
-            go : (x : Bool) → has_node (read_chart_of bytes).chart.nodes s ≡ x → has_node (read_chart_of bytes).chart.nodes s ≡ true
-            go true q = q
-            go false q = let n : ◌≡◌ {A = ℕ} 44 0 = sym (ap (λ (t : TableWritten). t.refusal) (wrote false q)) ∙ y in absurd (omega arith)
+      number_is : pz_table_refusal bytes s (length image) ≡ refuse 10 (ltb (length image) 196) 0
+      unfolding pz_table_refusal
+      number_is = rw (g.0, found)
 
-        number : pz_table_refusal bytes s (length image) ≡ refuse 10 (ltb (length image) 196) 0
-        unfolding pz_table_refusal
-        number = rw (read, found)
+      pub short : length image < 196 → {k : ℕ} → k ≡ 10 → Gives k image
+      short l e = refuses (e ∙ sym (number_is ∙ rw (lt-ltb (length image) 196 l) refl)) (λ n. omega (arith, e))
 
-        pub short : length image < 196 → Gives 10 image
-        short l = refuses (sym (number ∙ rw (lt-ltb (length image) 196 l) refl)) (λ n. omega arith)
-
-        pub stored : 196 ≤ length image → {o : List ℕ} → o ≡ sets image 0 (table_image w.table) → Gives 0 o
-        unfolding pz_table_image unless_refused
-        stored l q =
-            let n : pz_table_refusal bytes s (length image) ≡ 0 = number ∙ rw (le-ltb (length image) 196 l) refl in
-            let t = table_for (read_chart_of bytes).chart s in
-            let front = sets-front image (table_image t) (omega (arith, image-size t)) in
-            record {
-              number = sym n;
-              table = q ∙ ap (λ (x : TableWritten). sets image 0 (table_image x.table)) (wrote true found) ∙ front ∙ rw n refl;
-            }
+      pub stored : 196 ≤ length image → {t : Table} → t ≡ (write_known_of c s).table → {o : List ℕ} → o ≡ sets image 0 (table_image t) → Gives 0 o
+      unfolding pz_table_image unless_refused
+      stored l h q =
+          let n : pz_table_refusal bytes s (length image) ≡ 0 = number_is ∙ rw (le-ltb (length image) 196 l) refl in
+          let t = table_for (read_chart_of bytes).chart s in
+          let front = sets-front image (table_image t) (omega (arith, image-size t)) in
+          record {
+            number = sym n;
+            table = q ∙ ap (λ (x : Table). sets image 0 (table_image x)) (h ∙ ap (λ (x : TableWritten). x.table) (wrote true found)) ∙ front ∙ rw n refl;
+          }

@@ -7,6 +7,8 @@ use native.Mathlib.Omega.{arith}
 use lib.ListN.{length, take}
 use lib.Seq.{sets}
 use borrow.Author.Tests.{not-true, not-false}
+use Rattle.std.specs.Prelude.{Ok}
+use Rattle.refusal.specs.declared.Refusal.TheVariants.{NoRoom, ChartUnasked, ChartLong}
 use Rattle.chart_mend.specs.Mending.{held_of, kept_bytes, list_bytes}
 use Rattle.chart_mend.proofs.Mending.{too_long, no_question, no_room, no-list-room, laid-aside, both-short, Comes, comes-refused, comes-taken}
 use Rattle.chart_mend.proofs.mend.Goals as goal
@@ -14,8 +16,7 @@ use Rattle.chart_mend.proofs.mend.Goals as goal
 pub returns-then-input-gt-LONGEST_INPUT : goal.returns-then-input-gt-LONGEST_INPUT
 returns-then-input-gt-LONGEST_INPUT c =
     let a = c.args in
-    let w = comes-refused a.input.now a.out.now a.list.now 33 (λ z. omega arith)
-    (too_long a.input.now (length a.out.now) (length a.list.now) c.if-input-gt-LONGEST_INPUT.true) _ c.refused.ensures in
+    let w = comes-refused a.input.now a.out.now a.list.now ChartLong (too_long a.input.now (length a.out.now) (length a.list.now) c.if-input-gt-LONGEST_INPUT.true) in
     record { value = w.0; chart = w.1.0; list = w.1.1 }
 
 pub returns-then-not-s : goal.returns-then-not-s
@@ -24,9 +25,8 @@ returns-then-not-s c =
     let out : List ℕ = c.args.out.now in
     let list : List ℕ = c.args.list.now in
     let short : length input ≤ 65535 = c.if-input-gt-LONGEST_INPUT.false in
-    let w = comes-refused input out list 31 (λ z. omega arith)
-    (no_question input (length out) (length list) short (sym c.sort-s.ensures.asked ∙ not-true _ c.if-not-s.true))
-    _ c.refused-then-not-s.ensures in
+    let w = comes-refused input out list ChartUnasked
+    (no_question input (length out) (length list) short (sym c.sort-s.ensures.asked ∙ not-true _ c.if-not-s.true)) in
     record { value = w.0; chart = w.1.0; list = w.1.1 }
 
 pub returns-then-out-s : goal.returns-then-out-s
@@ -35,10 +35,9 @@ returns-then-out-s c =
     let out : List ℕ = c.args.out.now in
     let list : List ℕ = c.args.list.now in
     let short : length input ≤ 65535 = c.if-input-gt-LONGEST_INPUT.false in
-    let w = comes-refused input out list 10 (λ z. omega arith)
+    let w = comes-refused input out list NoRoom
     (no_room input (length out) (length list) short (sym c.sort-s.ensures.asked ∙ not-false _ c.if-not-s.false)
-    (omega (arith, c.if-out-s.true, c.sort-s.ensures.kept)))
-    _ c.refused-then-out-s.ensures in
+    (omega (arith, c.if-out-s.true, c.sort-s.ensures.kept))) in
     record { value = w.0; chart = w.1.0; list = w.1.1 }
 
 pub returns-then-list-s : goal.returns-then-list-s
@@ -47,12 +46,11 @@ returns-then-list-s c =
     let out : List ℕ = c.args.out.now in
     let list : List ℕ = c.args.list.now in
     let short : length input ≤ 65535 = c.if-input-gt-LONGEST_INPUT.false in
-    let w = comes-refused input out list 10 (λ z. omega arith)
+    let w = comes-refused input out list NoRoom
     (no-list-room input (length out) (length list) short
     (sym c.sort-s.ensures.asked ∙ not-false _ c.if-not-s.false)
     (omega (arith, c.if-out-s.false, c.sort-s.ensures.kept))
-    (omega (arith, c.if-list-s.true, c.sort-s.ensures.listed)))
-    _ c.refused-then-list-s.ensures in
+    (omega (arith, c.if-list-s.true, c.sort-s.ensures.listed))) in
     record { value = w.0; chart = w.1.0; list = w.1.1 }
 
 pub returns-then-s : goal.returns-then-s
@@ -62,7 +60,7 @@ returns-then-s c =
     let list : List ℕ = c.args.list.now in
     let short : length input ≤ 65535 = c.if-input-gt-LONGEST_INPUT.false in
     let asked : (held_of input).asked ≡ true = sym c.sort-s.ensures.asked ∙ not-false _ c.if-not-s.false in
-    let comes : (out' list' : List ℕ) → out' ≡ sets out 0 (kept_bytes input) → list' ≡ sets list 0 (list_bytes input) → Comes input out list (record { refusal = 0; kept = c.sort-s.result.kept; listed = c.sort-s.result.listed }) out' list' = λ out' list' p q. comes-taken input out list short asked _ _ c.sort-s.ensures.kept c.sort-s.ensures.listed
+    let comes : (out' list' : List ℕ) → out' ≡ sets out 0 (kept_bytes input) → list' ≡ sets list 0 (list_bytes input) → Comes input out list (Ok (record { kept = c.sort-s.result.kept; listed = c.sort-s.result.listed })) out' list' = λ out' list' p q. comes-taken input out list short asked _ _ c.sort-s.ensures.kept c.sort-s.ensures.listed
     c.if-out-s.false c.if-list-s.false out' list' p q in
     let aside : List ℕ = c.sort-s.new.out in
     let list-aside : List ℕ = c.sort-s.new.list in
@@ -83,7 +81,7 @@ returns-else-s c =
     let list : List ℕ = c.args.list.now in
     let short : length input ≤ 65535 = c.if-input-gt-LONGEST_INPUT.false in
     let asked : (held_of input).asked ≡ true = sym c.sort-s.ensures.asked ∙ not-false _ c.if-not-s.false in
-    let comes : (out' list' : List ℕ) → out' ≡ sets out 0 (kept_bytes input) → list' ≡ sets list 0 (list_bytes input) → Comes input out list (record { refusal = 0; kept = c.sort-s.result.kept; listed = c.sort-s.result.listed }) out' list' = λ out' list' p q. comes-taken input out list short asked _ _ c.sort-s.ensures.kept c.sort-s.ensures.listed
+    let comes : (out' list' : List ℕ) → out' ≡ sets out 0 (kept_bytes input) → list' ≡ sets list 0 (list_bytes input) → Comes input out list (Ok (record { kept = c.sort-s.result.kept; listed = c.sort-s.result.listed })) out' list' = λ out' list' p q. comes-taken input out list short asked _ _ c.sort-s.ensures.kept c.sort-s.ensures.listed
     c.if-out-s.false c.if-list-s.false out' list' p q in
     let w = comes _ _ c.sort.ensures.out_after c.sort.ensures.list_after in
     record { value = w.0; chart = w.1.0; list = w.1.1 }

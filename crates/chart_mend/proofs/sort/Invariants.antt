@@ -2,13 +2,12 @@
 -- what is held.
 use Prim.Native.Nat.{◌-◌}
 use lib.ListN.{length}
-use Rattle.chart_read.specs.Private.{as_keys}
 use Rattle.chart_mend.proofs.Sorting.{Sorting}
 use Rattle.chart_mend.proofs.sort.Given as goal
 
 abbrev pub invariant-loop-at : goal.invariant-loop-at
 invariant-loop-at l =
-    Sorting l.input l.initial.out l.initial.list (record { out = l.out; list = l.list; keys = as_keys l.keys l.akeys l.bkeys l.counts; kept = l.kept; listed = l.listed; at = l.at })
+    Sorting l.input l.initial.out l.initial.list (record { out = l.out; list = l.list; keys = l.keys; kept = l.kept; listed = l.listed; at = l.at })
 
 abbrev pub decreases-loop-at : goal.decreases-loop-at
 decreases-loop-at l =

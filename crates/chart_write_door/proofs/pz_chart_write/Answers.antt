@@ -1,22 +1,28 @@
 -- `chart_write_door::pz_chart_write` meets its contract: a short image is refused; else the writer's own answer is what C gets.
-use mathlib.Core.Path.{sym, ap, ◌∙◌}
+use mathlib.Core.Path.{sym, ◌∙◌}
 use native.Mathlib.Omega.{arith}
-use Rattle.buffer.specs.Writing.{written_refusal, written_count}
+use Rattle.refusal.proofs.Laws.{names}
 use Rattle.chart_write.proofs.Promises.{read_undoes_write}
-use Rattle.chart_write_door.proofs.Writing.{write-short, write_done}
-use borrow.Author.Rules.{rules}
+use Rattle.chart_write_door.proofs.Writing.{write-short, write-refused, write_done}
 use Rattle.chart_write_door.proofs.pz_chart_write.Goals as goal
 
 pub returns-then-image-lt-CHART_IMAGE_SIZE : goal.returns-then-image-lt-CHART_IMAGE_SIZE
-returns-then-image-lt-CHART_IMAGE_SIZE c = write-short c.args.image.now c.args.chart.now c.if-image-lt-CHART_IMAGE_SIZE.true
+returns-then-image-lt-CHART_IMAGE_SIZE c =
+    let w = write-short c.args.image.now c.args.chart.now c.if-image-lt-CHART_IMAGE_SIZE.true in
+    (c.number.ensures ∙ w.0, w.1, w.2)
 
 pub overflow_cast-written : goal.overflow_cast-written
 overflow_cast-written c =
-    let s = (read_undoes_write _ c.args.chart.now c.in-Wrote.n (sym c.write_chart.ensures.value ∙ c.in-Wrote.is)).short in
+    let s = (read_undoes_write _ c.args.chart.now c.in-Ok.n c.in-Ok.ensures.value).short in
     record { fits = omega arith }
 
-pub returns-in-Refused : goal.returns-in-Refused
-returns-in-Refused c = write_done c.args.image.now c.args.chart.now c.if-image-lt-CHART_IMAGE_SIZE.false c.chart_in-c.ensures c.write_chart.result c.write_chart.ensures.refusal c.write_chart.ensures.count c.write_chart.ensures.buffer (ap written_refusal (sym c.in-Refused.is)) (ap written_count (sym c.in-Refused.is))
+pub returns-in-Ok : goal.returns-in-Ok
+returns-in-Ok c =
+    let e = c.in-Ok.ensures in
+    write_done c.args.image.now c.args.chart.now c.if-image-lt-CHART_IMAGE_SIZE.false c.chart_in-c.ensures e.buffer e.value.0 e.value.1
 
-pub returns-in-Wrote : goal.returns-in-Wrote
-returns-in-Wrote c = write_done c.args.image.now c.args.chart.now c.if-image-lt-CHART_IMAGE_SIZE.false c.chart_in-c.ensures c.write_chart.result c.write_chart.ensures.refusal c.write_chart.ensures.count c.write_chart.ensures.buffer (ap written_refusal (sym c.in-Wrote.is)) (ap written_count (sym c.in-Wrote.is))
+pub returns-in-Err : goal.returns-in-Err
+returns-in-Err c =
+    let e = c.in-Err.ensures in
+    let k = c.number-in-Err.ensures in
+    write-refused c.args.image.now c.args.chart.now c.if-image-lt-CHART_IMAGE_SIZE.false c.chart_in-c.ensures e.buffer (k ∙ e.value) (λ z. names.none_zero _ (sym k ∙ z))

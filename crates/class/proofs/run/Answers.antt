@@ -1,5 +1,6 @@
 -- `class::run` meets its contract: a step that comes to a node lengthens the way.
-use Rattle.class.specs.Calls.{tables_in}
+use mathlib.Core.Path.{ap}
+use Rattle.class.specs.Calls.{tables_in, passing}
 use Rattle.class.proofs.Passing.{goes_first, goes_over, goes-nowhere, gone}
 use Rattle.class.proofs.run.Goals as goal
 use Rattle.class.proofs.run.Goals.{then-m, else-m}
@@ -30,4 +31,4 @@ returns c =
     let l = c.loop-m in
     let a = c.args in
     let ts = tables_in a.tables.now in
-    gone a.c ts a.d a.at c.requires.chart l.m l.way l.count l.left l.invariant c.loop-m-test.false
+    ap passing (gone a.c ts a.d a.at c.requires.chart l.m l.way l.count l.left l.invariant c.loop-m-test.false)

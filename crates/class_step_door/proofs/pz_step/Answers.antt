@@ -1,26 +1,32 @@
 -- `class_step_door::pz_step` meets its contract: the class's number, then 10, then the image of the message a step on.
+use mathlib.Core.Path.{sym, ◌∙◌}
 use native.Mathlib.Omega.{arith}
+use Rattle.refusal.proofs.Laws.{names}
 use Rattle.address.specs.Address.{address_of}
 use Rattle.class_step_door.proofs.Laws.{fits, step-refused, step-short, step-written}
-use borrow.Author.Rules.{rules}
 use Rattle.class_step_door.proofs.pz_step.Goals as goal
 
 pub overflow_cast-place : goal.overflow_cast-place
 overflow_cast-place c =
     let a = c.args in
-    omega (arith, fits a.chart.now a.tables.now (address_of a.to_brigade a.to_node a.to_port) a.message.now c.message_in-m.ensures c.step-sent.ensures (λ i. omega (arith, c.type_inv.chart i)))
+    let near = fits a.chart.now a.tables.now (address_of a.to_brigade a.to_node a.to_port) a.message.now c.message_in-m.ensures (λ i. omega (arith, c.type_inv.chart i)) in
+    record { fits = omega (arith, c.in-Err.ensures.1, near) }
 
-pub returns-then-sent-ne0 : goal.returns-then-sent-ne0
-returns-then-sent-ne0 c =
+pub returns-in-Err : goal.returns-in-Err
+returns-in-Err c =
     let a = c.args in
-    step-refused a.chart.now a.tables.now (address_of a.to_brigade a.to_node a.to_port) a.message.now c.message_in-m.ensures c.step-sent.ensures c.if-sent-ne0.true
+    let told = c.in-Err.ensures in
+    step-refused a.chart.now a.tables.now (address_of a.to_brigade a.to_node a.to_port) a.message.now c.message_in-m.ensures
+    (c.number.ensures ∙ told.0) told.1 (λ z. names.none_zero c.in-Err.fault.refusal (sym c.number.ensures ∙ z))
 
 pub returns-then-message-lt-MESSAGE_SIZE : goal.returns-then-message-lt-MESSAGE_SIZE
 returns-then-message-lt-MESSAGE_SIZE c =
     let a = c.args in
-    step-short a.chart.now a.tables.now (address_of a.to_brigade a.to_node a.to_port) a.message.now c.message_in-m.ensures c.step-sent.ensures c.if-sent-ne0.false c.if-message-lt-MESSAGE_SIZE.true
+    let told = c.in-Ok.ensures in
+    step-short a.chart.now a.tables.now (address_of a.to_brigade a.to_node a.to_port) a.message.now c.message_in-m.ensures told.0 told.1.0 c.if-message-lt-MESSAGE_SIZE.true
 
-pub returns : goal.returns
-returns c =
+pub returns-else-message-lt-MESSAGE_SIZE : goal.returns-else-message-lt-MESSAGE_SIZE
+returns-else-message-lt-MESSAGE_SIZE c =
     let a = c.args in
-    step-written a.chart.now a.tables.now (address_of a.to_brigade a.to_node a.to_port) a.message.now c.message_in-m.ensures c.step-sent.ensures c.if-sent-ne0.false c.if-message-lt-MESSAGE_SIZE.false c.put_message.ensures
+    let told = c.in-Ok.ensures in
+    step-written a.chart.now a.tables.now (address_of a.to_brigade a.to_node a.to_port) a.message.now c.message_in-m.ensures told.0 told.1.0 c.if-message-lt-MESSAGE_SIZE.false told.1.1 c.put_message.ensures

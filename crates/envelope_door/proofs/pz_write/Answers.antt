@@ -1,34 +1,34 @@
 -- `envelope_door::pz_write` meets its contract: the refusals of the image come first, and then the writer's own answer.
-use Prim.Native.Nat.{ℕ}
-use mathlib.Core.Path.{◌≡◌, sym, ◌∙◌, ap}
+use mathlib.Core.Path.{sym, ◌∙◌}
 use native.Mathlib.Omega.{arith}
-use Rattle.buffer.specs.Writing.{written_refusal, written_count}
-use Rattle.envelope_write.proofs.Laws.{frames-short}
-use Rattle.envelope_door.proofs.Writing.{Says, write-image-short, write-stray, write_done}
-use borrow.Author.Rules.{rules}
+use Rattle.refusal.proofs.Laws.{names}
+use Rattle.lists.proofs.Refusals.{taken, refused}
+use Rattle.envelope_write.proofs.Laws.{written-short}
+use Rattle.envelope_door.proofs.Writing.{write-image-short, write-stray, write_done}
 use Rattle.envelope_door.proofs.pz_write.Goals as goal
 
 pub returns-then-image-lt-ENVELOPE_SIZE : goal.returns-then-image-lt-ENVELOPE_SIZE
 returns-then-image-lt-ENVELOPE_SIZE c = write-image-short c.args.image.now c.args.contents.now c.args.frame.now c.if-image-lt-ENVELOPE_SIZE.true
 
 pub returns-then-image-gt1 : goal.returns-then-image-gt1
-returns-then-image-gt1 c = write-stray c.args.image.now c.args.contents.now c.args.frame.now c.if-image-lt-ENVELOPE_SIZE.false c.if-image-gt1.true (c.stray_ack.ensures ∙ rw c.fields_in-e.ensures)
+returns-then-image-gt1 c = write-stray c.args.image.now c.args.contents.now c.args.frame.now c.if-image-lt-ENVELOPE_SIZE.false c.if-image-gt1.true (c.number.ensures ∙ c.stray_ack.ensures ∙ rw c.fields_in-e.ensures)
 
 pub overflow_cast-written : goal.overflow_cast-written
 overflow_cast-written c =
-    let s = frames-short _ _ _ _ c.in-Wrote.n (sym c.write_frame.ensures.value ∙ c.in-Wrote.is) in
+    let short = written-short _ _ _ _ c.in-Ok.n c.in-Ok.ensures.value in
     record { fits = omega arith }
 
-pub returns-in-Refused : goal.returns-in-Refused
-returns-in-Refused c =
-    let given : (r w : ℕ) → r ≡ written_refusal c.write_frame.result → w ≡ written_count c.write_frame.result → Says c.args.image.now c.args.contents.now c.args.frame.now r w c.write_frame.new.out = λ r w hr hw. let a = c.args in
-    let v = rw c.fields_in-e.ensures at c.write_frame.ensures in
-    write_done a.image.now a.contents.now a.frame.now c.if-image-lt-ENVELOPE_SIZE.false c.if-image-gt1.false c.addresses_in-addresses.result c.write_frame.result c.addresses_in-addresses.ensures v.refusal v.count v.buffer hr hw in
-    given _ _ (ap written_refusal (sym c.in-Refused.is)) (ap written_count (sym c.in-Refused.is))
+pub returns-in-Err : goal.returns-in-Err
+returns-in-Err c =
+    let a = c.args in
+    let v = rw c.fields_in-e.ensures at c.in-Err.ensures in
+    let refusal = c.number-in-Err.ensures ∙ v.value in
+    write_done a.image.now a.contents.now a.frame.now c.if-image-lt-ENVELOPE_SIZE.false c.if-image-gt1.false c.addresses_in-addresses.result c.addresses_in-addresses.ensures
+    refusal (sym (refused _ 0 _ (λ z. names.none_zero c.in-Err.refusal (v.value ∙ z)))) v.buffer
 
-pub returns-in-Wrote : goal.returns-in-Wrote
-returns-in-Wrote c =
-    let given : (r w : ℕ) → r ≡ written_refusal c.write_frame.result → w ≡ written_count c.write_frame.result → Says c.args.image.now c.args.contents.now c.args.frame.now r w c.write_frame.new.out = λ r w hr hw. let a = c.args in
-    let v = rw c.fields_in-e.ensures at c.write_frame.ensures in
-    write_done a.image.now a.contents.now a.frame.now c.if-image-lt-ENVELOPE_SIZE.false c.if-image-gt1.false c.addresses_in-addresses.result c.write_frame.result c.addresses_in-addresses.ensures v.refusal v.count v.buffer hr hw in
-    given _ _ (ap written_refusal (sym c.in-Wrote.is)) (ap written_count (sym c.in-Wrote.is))
+pub returns-in-Ok : goal.returns-in-Ok
+returns-in-Ok c =
+    let a = c.args in
+    let v = rw c.fields_in-e.ensures at c.in-Ok.ensures in
+    write_done a.image.now a.contents.now a.frame.now c.if-image-lt-ENVELOPE_SIZE.false c.if-image-gt1.false c.addresses_in-addresses.result c.addresses_in-addresses.ensures
+    (sym v.value.0) (v.value.1 ∙ sym (taken _ 0 v.value.0)) v.buffer

@@ -1,72 +1,68 @@
 -- `envelope_read::read_frame` meets its contract: the first refusal of the frame, then that of its values, else its fields.
-use Prim.Native.Nat.{ℕ}
-use mathlib.Core.Path.{◌≡◌, sym, ap, ◌∙◌}
+use Prim.Native.Nat.{ℕ, ◌≤◌}
+use mathlib.Core.Bool.{false}
+use mathlib.Core.Path.{◌≡◌, refl, sym, ap, ◌∙◌}
+use borrow.Author.Rules.{rules}
+use Rattle.std.specs.Prelude.{Err}
 use Rattle.buffer.specs.Bytes.{Bytes}
+use Rattle.lists.specs.Places.{element_at}
+use Rattle.refusal.specs.Numbers.{number}
+use Rattle.refusal.proofs.Laws.{names}
 use Rattle.envelope.specs.declared.Fixed.{Fixed}
 use Rattle.envelope.specs.Frame.{count_of, fields_of}
-use Rattle.envelope.specs.Refusal.{whole_refusal}
-use Rattle.envelope.proofs.Laws.{framed, count-le, part-from}
-use Rattle.envelope_read.specs.declared.Fault.{Fault}
-use Rattle.envelope_read.specs.Private.{whole_fault, value_place}
-use Rattle.envelope_read.proofs.Laws.{refusal-broken, Judges, judges, place-of-values, read-broken, read_whole, read_told}
+use Rattle.envelope.specs.Refusal.{frame_refusal}
+use Rattle.envelope.proofs.Laws.{framed, count-le, part-from, twin-le}
+use Rattle.envelope_read.specs.Private.{value_place}
+use Rattle.envelope_read.proofs.Laws.{judges, place-of-values, place_of-broken, place_at, place-none}
 use native.Mathlib.Omega.{arith}
 use Rattle.envelope_read.proofs.read_frame.Goals as goal
 
-pub returns-then-broken-ne0 : goal.returns-then-broken-ne0
-unfolding whole_fault
-returns-then-broken-ne0 c =
-    let shape : c.whole_fault-broken.result.refusal ≡ whole_refusal c.args.frame.now = ap (λ (x : Fault). x.refusal) c.whole_fault-broken.ensures in
-    let f = c.args.frame.now in
-    let e = shape in
-    let w = read_told f (read-broken f (refusal-broken f e c.if-broken-ne0.true) c.if-broken-ne0.true (ap (λ (x : Fault). x.place) c.whole_fault-broken.ensures ∙ rw (← e))) in
-    record { value = w.0; refusal = w.1.0; place = w.1.1.0; values = w.1.1.1 }
+pub returns-in_err-whole : goal.returns-in_err-whole
+returns-in_err-whole c =
+    let passed_on : c.from_residual.result ≡ Err c.in_err-whole.field-0.0 = search rules in
+    let k = c.in_err-whole.ensures in
+    rw passed_on (place_of-broken c.args.frame.now (names.none_zero c.in_err-whole.field-0.0.refusal) k.0 k.1)
 
 pub slice_bounds-keys_in-count : goal.slice_bounds-keys_in-count
-unfolding whole_fault
-slice_bounds-keys_in-count c =
-    let shape : c.whole_fault-broken.result.refusal ≡ whole_refusal c.args.frame.now = ap (λ (x : Fault). x.refusal) c.whole_fault-broken.ensures in
-    omega (arith, (framed c.args.frame.now (sym shape ∙ c.if-broken-ne0.false)).sized)
+slice_bounds-keys_in-count c = omega (arith, (framed c.args.frame.now c.in_ok-whole.ensures.0).sized)
 
 pub slice_bounds-keys_in-start : goal.slice_bounds-keys_in-start
-unfolding whole_fault
-slice_bounds-keys_in-start c =
-    let shape : c.whole_fault-broken.result.refusal ≡ whole_refusal c.args.frame.now = ap (λ (x : Fault). x.refusal) c.whole_fault-broken.ensures in
-    omega (arith, (framed c.args.frame.now (sym shape ∙ c.if-broken-ne0.false)).sized)
+slice_bounds-keys_in-start c = omega (arith, (framed c.args.frame.now c.in_ok-whole.ensures.0).sized)
+
+-- the frame has at most 63 destinations
+counted : (f : _) {e : Fixed} → e ≡ fields_of f → e.count ≤ 63
+unfolding fields_of
+counted f h = rw h (count-le f)
 
 pub keys_in-keys-requires : goal.keys_in-keys-requires
+keys_in-keys-requires c = counted c.args.frame.now c.fields_of-e.ensures
+
+pub value_place-requires-clause-counted : goal.value_place-requires-clause-counted
+value_place-requires-clause-counted c = counted c.args.frame.now c.fields_of-e.ensures
+
+pub value_place-requires-clause-placed : goal.value_place-requires-clause-placed
+value_place-requires-clause-placed c =
+    let e = c.fields_of-e.result in
+    let within = twin-le e e.length false (element_at 0 c.keys_in-keys.result) in
+    let few = counted c.args.frame.now c.fields_of-e.ensures in
+    omega (arith, c.in-Err.ensures.1, within, few)
+
+pub returns-in-Ok : goal.returns-in-Ok
+returns-in-Ok c =
+    let f = c.args.frame.now in
+    let bytes : Bytes f = λ i. omega (arith, c.type_inv.frame i) in
+    let judged = judges f bytes c.fields_of-e.result c.keys_in-keys.result c.in_ok-whole.ensures.0 c.fields_of-e.ensures (rw (part-from 5 f) at c.keys_in-keys.ensures) refl in
+    let none : frame_refusal f ≡ 0 = sym judged.number ∙ c.in-Ok.ensures.0 in
+    (none, (place-none f none, c.fields_of-e.ensures))
+
+pub returns-in-Err : goal.returns-in-Err
 unfolding fields_of
-keys_in-keys-requires c = rw c.fields_of-e.ensures (count-le c.args.frame.now)
-
-pub returns-then-judged-ne0 : goal.returns-then-judged-ne0
-unfolding fields_of whole_fault
-returns-then-judged-ne0 c =
-    let shape : c.whole_fault-broken.result.refusal ≡ whole_refusal c.args.frame.now = ap (λ (x : Fault). x.refusal) c.whole_fault-broken.ensures in
-    let judged : Judges c.args.frame.now c.judged_by-judged.result = let f = c.args.frame.now in
-    let bytes : Bytes f = λ i. omega (arith, c.type_inv.frame i) in
-    judges f bytes c.fields_of-e.result c.keys_in-keys.result
-    (sym shape ∙ c.if-broken-ne0.false)
-    c.fields_of-e.ensures
-    (rw (part-from 5 f) at c.keys_in-keys.ensures)
-    c.judged_by-judged.ensures in
+returns-in-Err c =
     let f = c.args.frame.now in
     let bytes : Bytes f = λ i. omega (arith, c.type_inv.frame i) in
-    let n : c.fields_of-e.result.count ≡ count_of f = ap (λ (x : Fixed). x.count) c.fields_of-e.ensures in
-    let w = read_told f
-    (read-broken f judged.number c.if-judged-ne0.true
-    (c.value_place-place.ensures ∙ ap (λ (m : ℕ). value_place c.judged_by-judged.result.refusal m c.judged_by-judged.result.twin) n ∙ place-of-values f bytes judged c.if-judged-ne0.true)) in
-    record { value = w.0; refusal = w.1.0; place = w.1.1.0; values = w.1.1.1 }
-
-pub returns : goal.returns
-unfolding whole_fault
-returns c =
-    let shape : c.whole_fault-broken.result.refusal ≡ whole_refusal c.args.frame.now = ap (λ (x : Fault). x.refusal) c.whole_fault-broken.ensures in
-    let judged : Judges c.args.frame.now c.judged_by-judged.result = let f = c.args.frame.now in
-    let bytes : Bytes f = λ i. omega (arith, c.type_inv.frame i) in
-    judges f bytes c.fields_of-e.result c.keys_in-keys.result
-    (sym shape ∙ c.if-broken-ne0.false)
-    c.fields_of-e.ensures
-    (rw (part-from 5 f) at c.keys_in-keys.ensures)
-    c.judged_by-judged.ensures in
-    let f = c.args.frame.now in
-    let w = read_told f (read_whole f (sym judged.number ∙ c.if-judged-ne0.false) c.fields_of-e.ensures) in
-    record { value = w.0; refusal = w.1.0; place = w.1.1.0; values = w.1.1.1 }
+    let fault = c.in-Err.fault in
+    let told = c.in-Err.ensures in
+    let judged = judges f bytes c.fields_of-e.result c.keys_in-keys.result c.in_ok-whole.ensures.0 c.fields_of-e.ensures (rw (part-from 5 f) at c.keys_in-keys.ensures) refl in
+    let count : c.fields_of-e.result.count ≡ count_of f = ap (λ (x : Fixed). x.count) c.fields_of-e.ensures in
+    let placed = place-of-values f bytes judged (λ z. names.none_zero fault.refusal (told.0 ∙ z)) in
+    rw c.at.ensures (told.0 ∙ judged.number, c.value_place.ensures ∙ ap (λ (m : ℕ). value_place (number fault.refusal) m fault.place) count ∙ rw (told.0, told.1) (placed ∙ place_at f judged.number))

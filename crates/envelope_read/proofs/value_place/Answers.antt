@@ -1,18 +1,21 @@
--- `envelope_read::value_place` meets its contract: by cases on the number.
+-- `envelope_read::value_place` meets its contract: by cases on the refusal.
 use borrow.Author.Tests.{ne_eqb}
+use Rattle.refusal.specs.declared.Refusal.TheVariants.{FrameCount, FrameRepeated}
+use Rattle.refusal.proofs.Laws.{names}
 use Rattle.envelope_read.specs.Private.{value_place}
 use Rattle.envelope_read.proofs.value_place.Goals as goal
 
-pub returns-in-4 : goal.returns-in-4
+pub returns-in-FrameCount : goal.returns-in-FrameCount
 unfolding value_place
-returns-in-4 c = rw c.in-4.is
+returns-in-FrameCount c = rw c.in-FrameCount.is
 
-pub returns-in-8 : goal.returns-in-8
+pub returns-in-FrameRepeated : goal.returns-in-FrameRepeated
 unfolding value_place
-returns-in-8 c = rw c.in-8.is c.destination_place.ensures
+returns-in-FrameRepeated c = rw c.in-FrameRepeated.is c.destination_place.ensures
 
 pub returns-in_default : goal.returns-in_default
 unfolding value_place
 returns-in_default c =
-    let r = c.in_default.in_default-own.rest in
-    rw (ne_eqb _ _ r.0.1, ne_eqb _ _ r.1) c.destination_place-in_default.ensures
+    let d = c.in_default in
+    rw (ne_eqb _ _ (λ h. d.not-FrameCount (names.one _ FrameCount h)), ne_eqb _ _ (λ h. d.not-FrameRepeated (names.one _ FrameRepeated h)))
+    c.destination_place-in_default.ensures

@@ -6,69 +6,60 @@ use mathlib.Core.List.{List}
 use borrow.Author.Tests.{not-true, not-false}
 use Rattle.buffer.specs.Bytes.{Bytes}
 use Rattle.address.specs.declared.Port.{Port}
+use Rattle.refusal.proofs.Laws.{names}
+use Rattle.refusal.proofs.Passed.{passed-answer_at}
 use Rattle.envelope.specs.declared.Fixed.{Fixed}
 use Rattle.envelope.specs.Frame.{fields_of}
 use Rattle.envelope.specs.Refusal.{frame_refusal}
-use Rattle.envelope.proofs.Laws.{accepted, no_place}
-use Rattle.envelope_read.proofs.Laws.{Opened, read-envelope, read-refused}
+use Rattle.envelope.proofs.Laws.{accepted}
 use Rattle.table.specs.declared.Table.{Table}
 use Rattle.ledger.specs.declared.Ledger.{Ledger}
 use Rattle.ledger.proofs.Laws.{obedient}
 use Rattle.ledger_accept.specs.Accept.{call_refusal, accept_refusal}
-use Rattle.ledger_accept.proofs.Laws.{called, roomy, accept-refused, read-refusal, call-refusal, accept-quiet, accept-added}
+use Rattle.ledger_accept.proofs.Laws.{called, roomy, frame-refused, call-refused, call-refusal, accept-quiet, accept-added}
 use native.Mathlib.Omega.{arith}
 use Rattle.ledger_accept.proofs.accept.Goals as goal
 
 -- the number of an accepted frame is the call's
-judged : (l : Ledger) (f : List ℕ) (arrival : Port) (t : Table) (ticks : ℕ) → Bytes f → {e : Fixed} → Opened (frame_refusal f) e (fields_of f)
+judged : (l : Ledger) (f : List ℕ) (arrival : Port) (t : Table) (ticks : ℕ) → Bytes f → {e : Fixed} → frame_refusal f ≡ 0 → e ≡ fields_of f
     → {n : ℕ} → n ≡ call_refusal l e false arrival t ticks → n ≡ accept_refusal l f arrival t ticks
-judged l f arrival t ticks bytes o h = h ∙ call-refusal l f arrival t ticks bytes o.none o.same
+judged l f arrival t ticks bytes z p h = h ∙ call-refusal l f arrival t ticks bytes z p
 
-pub returns-in_default : goal.returns-in_default
-returns-in_default c =
+pub returns-in_err-e : goal.returns-in_err-e
+returns-in_err-e c =
     let a = c.args in
-    let f = a.frame.now in
-    let e = c.read_frame-answer.ensures in
-    let r = read-refused f _ _ (sym c.in_default.is ∙ e.value) in
-    let n = c.read_refusal.ensures ∙ e.refusal in
-    c.none_added.ensures ∙ accept-refused a.l f a.arrival a.table a.ticks
-    (n ∙ read-refusal a.l f a.arrival a.table a.ticks r.0)
-    (λ z. r.0 (sym n ∙ z))
-    (c.read_place.ensures ∙ e.place)
+    let r = frame-refused a.l a.frame.now a.arrival a.table a.ticks (names.none_zero _) c.in_err-e.ensures in
+    passed-answer_at _ _ c.from_residual.ensures.1 r.0 r.1 _
 
-pub returns-then-refusal-ne0 : goal.returns-then-refusal-ne0
-returns-then-refusal-ne0 c =
+pub returns-in-Err : goal.returns-in-Err
+returns-in-Err c =
     let a = c.args in
-    let opened = read-envelope _ _ (sym c.in-Envelope.is ∙ c.read_frame-answer.ensures.value) in
-    let n = judged a.l a.frame.now a.arrival a.table a.ticks (λ i. omega (arith, c.type_inv.frame i)) opened c.call_refusal-refusal.ensures in
-    c.none_added-then-refusal-ne0.ensures ∙ accept-refused a.l a.frame.now a.arrival a.table a.ticks n c.if-refusal-ne0.true (no_place _ opened.none)
+    let g = c.in_ok-e.ensures in
+    let n = judged a.l a.frame.now a.arrival a.table a.ticks (λ i. omega (arith, c.type_inv.frame i)) g.0 g.1.1 c.in-Err.ensures in
+    rw c.at.ensures (call-refused a.l a.frame.now a.arrival a.table a.ticks n g.1.0)
 
 pub returns-then-not-e : goal.returns-then-not-e
 returns-then-not-e c =
     let a = c.args in
-    let opened = read-envelope _ _ (sym c.in-Envelope.is ∙ c.read_frame-answer.ensures.value) in
-    let n = judged a.l a.frame.now a.arrival a.table a.ticks (λ i. omega (arith, c.type_inv.frame i)) opened c.call_refusal-refusal.ensures in
-    c.none_added-then-not-e.ensures ∙ accept-quiet a.l a.frame.now a.arrival a.table a.ticks (sym n ∙ c.if-refusal-ne0.false) _ opened.same (not-true _ c.if-not-e.true)
+    let g = c.in_ok-e.ensures in
+    let n = judged a.l a.frame.now a.arrival a.table a.ticks (λ i. omega (arith, c.type_inv.frame i)) g.0 g.1.1 c.in_default.ensures in
+    accept-quiet a.l a.frame.now a.arrival a.table a.ticks (sym n) _ g.1.1 (not-true _ c.if-not-e.true)
 
 pub slice_bounds-with_legs-count : goal.slice_bounds-with_legs-count
-slice_bounds-with_legs-count c =
-    let opened = read-envelope _ _ (sym c.in-Envelope.is ∙ c.read_frame-answer.ensures.value) in
-    omega (arith, (accepted _ opened.none).frame.sized)
+slice_bounds-with_legs-count c = omega (arith, (accepted _ c.in_ok-e.ensures.0).frame.sized)
 
 pub slice_bounds-with_legs-start : goal.slice_bounds-with_legs-start
-slice_bounds-with_legs-start c =
-    let opened = read-envelope _ _ (sym c.in-Envelope.is ∙ c.read_frame-answer.ensures.value) in
-    omega (arith, (accepted _ opened.none).frame.sized)
+slice_bounds-with_legs-start c = omega (arith, (accepted _ c.in_ok-e.ensures.0).frame.sized)
 
 pub with_legs-after-requires : goal.with_legs-after-requires
 with_legs-after-requires c =
-    let z = sym c.call_refusal-refusal.ensures ∙ c.if-refusal-ne0.false in
+    let z = sym c.in_default.ensures in
     let k = called _ _ _ _ _ _ z in
     (omega (arith, (roomy _ _ _ _ _ _ z (not-false _ c.if-not-e.false)).room, (obedient _ k.rules).few), k.table, k.port)
 
 pub returns : goal.returns
 returns c =
     let a = c.args in
-    let opened = read-envelope _ _ (sym c.in-Envelope.is ∙ c.read_frame-answer.ensures.value) in
-    let n = judged a.l a.frame.now a.arrival a.table a.ticks (λ i. omega (arith, c.type_inv.frame i)) opened c.call_refusal-refusal.ensures in
-    accept-added a.l a.frame.now a.arrival a.table a.ticks (sym n ∙ c.if-refusal-ne0.false) _ opened.same (not-false _ c.if-not-e.false) c.with_legs-after.ensures
+    let g = c.in_ok-e.ensures in
+    let n = judged a.l a.frame.now a.arrival a.table a.ticks (λ i. omega (arith, c.type_inv.frame i)) g.0 g.1.1 c.in_default.ensures in
+    accept-added a.l a.frame.now a.arrival a.table a.ticks (sym n) _ g.1.1 (not-false _ c.if-not-e.false) c.with_legs-after.ensures

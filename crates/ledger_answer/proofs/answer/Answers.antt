@@ -2,27 +2,36 @@
 use Rattle.lists.proofs.Bools.{told-false, told-true}
 use Rattle.lists.specs.Places.{element_at}
 use Rattle.ledger.specs.Rules.{leg_at}
-use Rattle.ledger.proofs.Laws.{obedient}
-use Rattle.ledger_answer.proofs.Laws.{answer-60, answer-64, answer-0}
+use Rattle.ledger_answer.proofs.Laws.{found, found_within, not-found, answer-60, answer-64, answer-0}
 use native.Mathlib.Omega.{arith}
 use Rattle.ledger_answer.proofs.answer.Goals as goal
 
 pub returns-then-not-obeys : goal.returns-then-not-obeys
 returns-then-not-obeys c = answer-60 c.args.l c.args.by c.args.to c.args.seq c.args.reply (told-false c.obeys.ensures c.if-not-obeys.true)
 
-pub returns-then-l-k : goal.returns-then-l-k
-returns-then-l-k c =
+pub returns-in_default : goal.returns-in_default
+returns-in_default c =
     answer-64 c.args.l c.args.by c.args.to c.args.seq c.args.reply (told-true c.obeys.ensures c.if-not-obeys.false)
-    c.answered_place-k.ensures c.if-l-k.true
+    (not-found c.args.l c.args.by c.args.to c.args.seq c.answered_place.ensures c.in_default.is)
+
+pub offset_bounds-l-k : goal.offset_bounds-l-k
+offset_bounds-l-k c =
+    let k = found_within c.args.l c.args.by c.args.to c.args.seq c.answered_place.ensures c.in-Some.is (told-true c.obeys.ensures c.if-not-obeys.false) in
+    record { fits = omega (arith, k) }
 
 pub bounds-l-k : goal.bounds-l-k
-bounds-l-k c = omega (arith, (obedient c.args.l (told-true c.obeys.ensures c.if-not-obeys.false)).few)
+bounds-l-k c = found_within c.args.l c.args.by c.args.to c.args.seq c.answered_place.ensures c.in-Some.is (told-true c.obeys.ensures c.if-not-obeys.false)
+
+pub offset_bounds-m-k : goal.offset_bounds-m-k
+offset_bounds-m-k c =
+    let k = found_within c.args.l c.args.by c.args.to c.args.seq c.answered_place.ensures c.in-Some.is (told-true c.obeys.ensures c.if-not-obeys.false) in
+    record { fits = omega (arith, k) }
 
 pub bounds-m-k : goal.bounds-m-k
-bounds-m-k c = omega (arith, (obedient c.args.l (told-true c.obeys.ensures c.if-not-obeys.false)).few)
+bounds-m-k c = found_within c.args.l c.args.by c.args.to c.args.seq c.answered_place.ensures c.in-Some.is (told-true c.obeys.ensures c.if-not-obeys.false)
 
 pub returns : goal.returns
 unfolding leg_at element_at
 returns c =
     answer-0 c.args.l c.args.by c.args.to c.args.seq c.args.reply (told-true c.obeys.ensures c.if-not-obeys.false)
-    c.answered_place-k.ensures c.if-l-k.false c.answered.ensures
+    (found c.args.l c.args.by c.args.to c.args.seq c.answered_place.ensures c.in-Some.is) c.answered.ensures

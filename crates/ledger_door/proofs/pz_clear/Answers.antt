@@ -1,9 +1,9 @@
--- `ledger_door::pz_clear` meets its contract: the ledger's own clear is put back.
-use Rattle.ledger_door.proofs.Laws.{clear-put}
-use borrow.Author.Rules.{rules}
+-- `ledger_door::pz_clear` meets its contract: the ledger's own clear is put back, and a refusal leaves the image.
+use Rattle.ledger_door.proofs.Laws.{clear-put, clear-left}
 use Rattle.ledger_door.proofs.pz_clear.Goals as goal
 
-pub returns : goal.returns
-returns c =
-    let a = c.args in
-    clear-put a.ledger.now a.place c.ledger_of-l.ensures c.clear-after.ensures c.put_back.ensures
+pub returns-in-Ok : goal.returns-in-Ok
+returns-in-Ok c = clear-put c.args.ledger.now c.args.place c.ledger_of-l.ensures c.in-Ok.ensures c.put_back.ensures
+
+pub returns-in-Err : goal.returns-in-Err
+returns-in-Err c = clear-left c.args.ledger.now c.args.place c.ledger_of-l.ensures c.in-Err.refusal c.in-Err.ensures c.number.ensures

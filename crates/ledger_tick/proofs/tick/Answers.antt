@@ -1,10 +1,9 @@
 -- `ledger_tick::tick` meets its contract: `tick_first` of the legs that count, put back into the ledger.
-use mathlib.Core.Path.{◌∙◌, ap}
+use mathlib.Core.Path.{◌∙◌, ap, sym}
 use Rattle.lists.proofs.Bools.{told-false, told-true}
 use Rattle.lists.proofs.Lists.{many-first}
 use Rattle.ledger.proofs.Laws.{obedient}
 use Rattle.ledger_tick.specs.declared.TickedLegs.{TickedLegs}
-use Rattle.ledger_tick.specs.declared.Ticked.{Ticked}
 use Rattle.ledger_tick.specs.Tick.{times_out, ticked_ledger}
 use Rattle.ledger_tick.proofs.Laws.{tick-60, tick-0}
 use native.Mathlib.Omega.{arith}
@@ -26,5 +25,11 @@ overflow_cast-result c =
 pub returns : goal.returns
 unfolding ticked_ledger
 returns c =
-    ap {B = Ticked} (λ (t : TickedLegs). record { refusal = 0; ended = t.ended; ledger = record { count = c.args.l.count; legs = t.legs } }) c.tick_first-t.ensures
-    ∙ tick-0 c.args.l (told-true c.obeys.ensures c.if-not-obeys.false)
+    let w = tick-0 c.args.l (told-true c.obeys.ensures c.if-not-obeys.false) in
+    let t = c.tick_first-t.ensures in (
+      w.0,
+      λ i. record {
+        ended = (ap (λ (x : TickedLegs). x.ended) t ∙ sym w.1) i;
+        ledger = (ap (λ (x : TickedLegs). record { count = c.args.l.count; legs = x.legs }) t ∙ sym w.2) i;
+      },
+    )

@@ -15,20 +15,20 @@ use Rattle.route_list.proofs.list.Goals as goal
 pub returns-then-links : goal.returns-then-links
 returns-then-links c =
     let a = c.args in
-    let w = list-many a.ends a.ways a.links a.from a.to a.out.now c.if-links.true c.refused.ensures in
+    let w = list-many a.ends a.ways a.links a.from a.to a.out.now c.if-links.true in
     record { value = w.0; bytes = w.1 }
 
 pub returns-then-from-ge-MOST_NODES : goal.returns-then-from-ge-MOST_NODES
 returns-then-from-ge-MOST_NODES c =
     let a = c.args in
-    let w = list-placeless a.ends a.ways a.links a.from a.to a.out.now c.if-links.false c.if-from-ge-MOST_NODES.true c.refused-then-from-ge-MOST_NODES.ensures in
+    let w = list-placeless a.ends a.ways a.links a.from a.to a.out.now c.if-links.false c.if-from-ge-MOST_NODES.true in
     record { value = w.0; bytes = w.1 }
 
 pub returns-then-room-eq0 : goal.returns-then-room-eq0
 returns-then-room-eq0 c =
     let a = c.args in
     let r = c.slot_room-room in
-    let w = list-roomless a.ends a.ways a.links a.from a.to a.out.now c.if-links.false c.if-from-ge-MOST_NODES.false r.result r.ensures c.if-room-eq0.true c.refused-then-room-eq0.ensures in
+    let w = list-roomless a.ends a.ways a.links a.from a.to a.out.now c.if-links.false c.if-from-ge-MOST_NODES.false r.result r.ensures c.if-room-eq0.true in
     record { value = w.0; bytes = w.1 }
 
 pub returns-then-not-reaches : goal.returns-then-not-reaches
@@ -38,7 +38,7 @@ returns-then-not-reaches c =
     let r = c.slot_room-room in
     let a = c.args in
     let w = list-nowhere a.ends a.ways a.links a.from a.to a.out.now c.if-links.false c.if-from-ge-MOST_NODES.false r.result r.ensures
-    c.if-room-eq0.false t.result t.ensures g.result g.ensures (not-true _ (ap not c.if-not-reaches.true)) c.refused-then-not-reaches.ensures in
+    c.if-room-eq0.false t.result t.ensures g.result g.ensures (not-true _ (ap not c.if-not-reaches.true)) in
     record { value = w.0; bytes = w.1 }
 
 pub overflow_mul-room : goal.overflow_mul-room
@@ -75,4 +75,4 @@ returns c =
     let w = c.walk_on-n in
     let w = lists a.ends a.ways a.links a.from a.to a.out.now c.if-links.false c.if-from-ge-MOST_NODES.false r.result r.ensures c.if-room-eq0.false t.result t.ensures
     (record { bytes = w.new.out; count = w.result }) w.ensures g.result g.ensures (not-false _ (ap not c.if-not-reaches.false)) in
-    record { value = rw c.min.ensures w.0; bytes = w.1 }
+    record { value = (w.0.0, rw c.min.ensures w.0.1); bytes = w.1 }

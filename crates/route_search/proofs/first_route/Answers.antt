@@ -1,57 +1,73 @@
 -- `route_search::first_route` meets its contract: 26, 28 and 42 in their turn, 43 where no route leads from the first node; else what walking on from the
 -- first node finds is the first of all routes.
-use mathlib.Core.Path.{ap, ◌∙◌}
-use mathlib.Core.List.{List}
-use Prim.Native.Nat.{ℕ}
+use mathlib.Core.Path.{ap, sym, subst}
 use borrow.Author.Tests.{not-true, not-false}
+use Rattle.std.specs.Prelude.{Result, Err}
+use Rattle.refusal.specs.declared.Refusal.{Refusal}
+use Rattle.refusal.proofs.Passed.{passed-answer}
+use Rattle.route_search.specs.declared.Route.{Route}
 use Rattle.route.specs.All.{first_of}
-use Rattle.route_search.specs.Answers.{first_route}
-use Rattle.route_search.specs.Private.{routes_over, found_at}
-use Rattle.route_search.proofs.Telling.{first-many, first-placeless, first_small, first-told, first-nowhere, all_join, begins-on, carried}
+use Rattle.route_links.specs.Private.{routes_on}
+use Rattle.route_search.proofs.Finding.{Finds, found-or}
+use Rattle.route_search.specs.Private.{found_at, first_over}
+use Rattle.route_search.proofs.Telling.{first-many, first-placeless, first_small, first-told, first-nowhere, first-none_found, begins-on}
 use mathlib.Core.Bool.{not}
 use Rattle.route_search.proofs.first_route.Goals as goal
 
 pub returns-then-links : goal.returns-then-links
+unfolding first_over
 returns-then-links c =
     let a = c.args in
     let w = first-many a.ends a.ways a.links a.from a.to a.buf.now c.if-links.true in
-    record { value = w.0; bytes = w.1.0; refusal = w.1.1.0; length = w.1.1.1 }
+    record { value = w.value; bytes = w.bytes }
 
 pub returns-then-from-ge-MOST_NODES : goal.returns-then-from-ge-MOST_NODES
+unfolding first_over
 returns-then-from-ge-MOST_NODES c =
     let a = c.args in
     let w = first-placeless a.ends a.ways a.links a.from a.to a.buf.now c.if-links.false c.if-from-ge-MOST_NODES.true in
-    record { value = w.0; bytes = w.1.0; refusal = w.1.1.0; length = w.1.1.1 }
+    record { value = w.value; bytes = w.bytes }
 
 pub returns-then-buf-lt-LONGEST_ROUTE : goal.returns-then-buf-lt-LONGEST_ROUTE
+unfolding first_over
 returns-then-buf-lt-LONGEST_ROUTE c =
     let a = c.args in
     let w = first_small a.ends a.ways a.links a.from a.to c.if-links.false c.if-from-ge-MOST_NODES.false a.buf.now c.if-buf-lt-LONGEST_ROUTE.true in
-    record { value = w.0; bytes = w.1.0; refusal = w.1.1.0; length = w.1.1.1 }
+    record { value = w.value; bytes = w.bytes }
 
 pub returns-then-not-reaches : goal.returns-then-not-reaches
+unfolding first_over
 returns-then-not-reaches c =
     let t = c.links_by_node-t in
     let a = c.args in
-    let w = first-nowhere a.ends a.ways a.links a.from a.to c.if-links.false c.if-from-ge-MOST_NODES.false
-    a.buf.now t.result c.reaches.result t.ensures c.reaches.ensures (not-true _ (ap not c.if-not-reaches.true)) c.if-buf-lt-LONGEST_ROUTE.false in
-    record { value = w.0; bytes = w.1.0; refusal = w.1.1.0; length = w.1.1.1 }
+    let w = first-nowhere a.ends a.ways a.links a.from a.to c.if-links.false c.if-from-ge-MOST_NODES.false t.result t.ensures
+    a.buf.now c.if-buf-lt-LONGEST_ROUTE.false c.reaches.result c.reaches.ensures (not-true _ (ap not c.if-not-reaches.true)) in
+    record { value = w.value; bytes = w.bytes }
 
-pub walk_on-f-requires : goal.walk_on-f-requires
-walk_on-f-requires c =
+pub walk_on-requires : goal.walk_on-requires
+walk_on-requires c =
     let t = c.links_by_node-t in
     let a = c.args in
     begins-on a.ends a.ways a.links a.from a.to c.if-links.false c.if-from-ge-MOST_NODES.false
     t.result c.reaches.result t.ensures c.reaches.ensures (not-false _ (ap not c.if-not-reaches.false))
 
+pub returns-in_err-found : goal.returns-in_err-found
+unfolding first_over
+returns-in_err-found c =
+    let a = c.args in
+    let t = c.links_by_node-t in
+    let r = c.in_err-found.field-0.0 in
+    let h : Finds (Err r) (found_at 0 (first_of (routes_on t.result a.from 0))) =
+    subst (λ (x : Result Route Refusal). Finds x (found_at 0 (first_of (routes_on t.result a.from 0)))) (sym c.in_err-found.ensures.value) (found-or _ _ c.walk_on.ensures) in
+    let w = first-none_found a.ends a.ways a.links a.from a.to c.if-links.false c.if-from-ge-MOST_NODES.false t.result t.ensures a.buf.now c.if-buf-lt-LONGEST_ROUTE.false r h in
+    record { value = passed-answer c.from_residual.result r c.from_residual.ensures.1 w.value _; bytes = w.bytes }
+
 pub returns : goal.returns
+unfolding first_over
 returns c =
     let a = c.args in
-    let w = c.walk_on-f in
     let t = c.links_by_node-t in
-    let few = c.if-links.false in
-    let inside = c.if-from-ge-MOST_NODES.false in
-    let j = all_join a.ends a.ways a.links a.from a.to few inside t.result t.ensures in
-    let p = first-told a.ends a.ways a.links a.from a.to few inside a.buf.now w.result c.if-buf-lt-LONGEST_ROUTE.false (w.ensures ∙ ap (λ (l : List (List ℕ)). found_at 0 (first_of l)) j) in
-    let w = carried (first_route (routes_over a.ends a.ways a.links a.from a.to)) a.buf.now c.hand_over.ensures.0 c.hand_over.ensures.1 p in
-    record { value = w.0; bytes = w.1.0; refusal = w.1.1.0; length = w.1.1.1 }
+    let w = first-told a.ends a.ways a.links a.from a.to c.if-links.false c.if-from-ge-MOST_NODES.false t.result t.ensures a.buf.now c.if-buf-lt-LONGEST_ROUTE.false
+    c.in_ok-found.found c.hand_over.result c.hand_over.new.buf
+    (subst (λ (x : Result Route Refusal). Finds x (found_at 0 (first_of (routes_on t.result a.from 0)))) (sym c.in_ok-found.ensures.value) (found-or _ _ c.walk_on.ensures)) c.hand_over.ensures.0 c.hand_over.ensures.1 in
+    record { value = w.value; bytes = w.bytes }

@@ -1,17 +1,19 @@
 -- `route_trace::list` meets its contract: the chart's own number first; of an accepted chart the list goes over what is kept, which has its routes.
-use mathlib.Core.Path.{sym, ◌∙◌}
-use borrow.Author.Rules.{rules}
+use mathlib.Core.Path.{sym}
+use Rattle.refusal.proofs.Passed.{passed-answer}
 use Rattle.route_trace.proofs.Laws.{list-refused, list-known}
 use Rattle.route_trace.proofs.list.Goals as goal
 
-pub returns-then-refusal-ne0 : goal.returns-then-refusal-ne0
-returns-then-refusal-ne0 c =
+pub returns-in_err-chart_refusal : goal.returns-in_err-chart_refusal
+returns-in_err-chart_refusal c =
     let a = c.args in
-    let w = list-refused a.c a.out.now c.chart_refusal-refusal.result c.chart_refusal-refusal.ensures c.if-refusal-ne0.true in
-    record { value = w.0; bytes = w.1 }
+    let r = c.in_err-chart_refusal.field-0.0 in
+    let w = list-refused a.c a.out.now r c.in_err-chart_refusal.ensures in
+    record { value = passed-answer c.from_residual.result r c.from_residual.ensures.1 w.0 _; bytes = w.1 }
 
 pub returns : goal.returns
 returns c =
     let a = c.args in
-    let w = list-known a.c (sym c.chart_refusal-refusal.ensures ∙ c.if-refusal-ne0.false) a.out.now (c.list_known.ensures.value, c.list_known.ensures.bytes) in
+    let l = c.list_known in
+    let w = list-known a.c (sym c.in_ok-chart_refusal.ensures) l.result l.new.out a.out.now (l.ensures.value, l.ensures.bytes) in
     record { value = w.0; bytes = w.1 }

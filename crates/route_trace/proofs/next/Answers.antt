@@ -1,24 +1,23 @@
 -- `route_trace::next` meets its contract: the chart's own number first; of an accepted chart the search goes over what is kept, which has its routes.
-use mathlib.Core.Path.{◌≡◌, sym, ap, ◌∙◌}
-use borrow.Author.Rules.{rules}
-use Rattle.chart_refuse.specs.Refusal.{chart_refusal}
-use Rattle.route_search.specs.Answers.{Told, next_route}
-use Rattle.route_search.proofs.Telling.{carried}
-use Rattle.chart_net.specs.Net.{routes_of}
-use Rattle.route_trace.proofs.Laws.{next-self, next-refused, next_known-trace}
+use mathlib.Core.Path.{sym}
+use Rattle.refusal.proofs.Passed.{passed-answer}
+use Rattle.route_trace.specs.Private.{next_known}
+use Rattle.route_trace.specs.Trace.{trace_next}
+use Rattle.route_trace.proofs.Laws.{next-refused, next_known-trace}
 use Rattle.route_trace.proofs.next.Goals as goal
 
-pub returns-then-refusal-ne0 : goal.returns-then-refusal-ne0
-returns-then-refusal-ne0 c =
+pub returns-in_err-chart_refusal : goal.returns-in_err-chart_refusal
+unfolding trace_next
+returns-in_err-chart_refusal c =
     let a = c.args in
-    let w = next-refused a.c a.buf.now a.given c.chart_refusal-refusal.result c.chart_refusal-refusal.ensures c.if-refusal-ne0.true in
-    record { value = w.0; bytes = w.1.0; refusal = w.1.1.0; length = w.1.1.1 }
+    let r = c.in_err-chart_refusal.field-0.0 in
+    let w = next-refused a.c a.buf.now a.given r c.in_err-chart_refusal.ensures in
+    record { value = passed-answer c.from_residual.result r c.from_residual.ensures.1 w.value _; bytes = w.bytes }
 
 pub returns : goal.returns
+unfolding next_known trace_next
 returns c =
     let a = c.args in
-    let ok : chart_refusal a.c ≡ 0 = sym c.chart_refusal-refusal.ensures ∙ c.if-refusal-ne0.false in
-    let e = next_known-trace a.c ok a.buf.now a.given in
     let h = c.next_known.ensures in
-    let w = carried (next_route (routes_of a.c) a.buf.now a.given) a.buf.now (h.value ∙ ap (λ (t : Told). t.answer) e) (h.bytes ∙ ap (λ (t : Told). t.bytes) e) (next-self a.c a.buf.now a.given) in
-    record { value = w.0; bytes = w.1.0; refusal = w.1.1.0; length = w.1.1.1 }
+    let w = next_known-trace a.c (sym c.in_ok-chart_refusal.ensures) a.buf.now a.given (record { value = h.value; bytes = h.bytes }) in
+    record { value = w.value; bytes = w.bytes }

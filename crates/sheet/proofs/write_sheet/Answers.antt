@@ -16,7 +16,7 @@ returns-then-out-ge-LONGEST_SHEET c =
     let put = c.put_sheet-all in
     let h : length (sheet_text a.bytes.now) ≤ 47369 = sheet-short a.bytes.now (λ i. omega (arith, c.type_inv.bytes i)) in
     let w = sheet-wrote a.bytes.now a.out.now (omega arith) (omega (arith, put.ensures.place)) put.ensures in
-    record { value = w.0; refusal = w.1.0; count = w.1.1.0; buffer = w.1.1.1 }
+    record { value = w.0; buffer = w.1 }
 
 pub returns-then-out-n : goal.returns-then-out-n
 returns-then-out-n c =
@@ -25,7 +25,7 @@ returns-then-out-n c =
     let first = c.put_sheet-n in
     let h : length out < first.result = omega (arith, ap length (no_room out first.ensures)) in
     let w = sheet-refused a.bytes.now out (too_short out first.ensures h) (no_room out first.ensures) in
-    record { value = w.0; refusal = w.1.0; count = w.1.1.0; buffer = w.1.1.1 }
+    record { value = w.0; buffer = w.1 }
 
 pub returns : goal.returns
 returns c =
@@ -36,4 +36,4 @@ returns c =
     let g : length out < last = omega arith in
     let e : first.result ≡ length (sheet_text a.bytes.now) = long-enough out first.ensures h g in
     let w = sheet-wrote a.bytes.now out (omega arith) e (as_lent out first.ensures c.put_sheet.ensures) in
-    record { value = w.0; refusal = w.1.0; count = w.1.1.0; buffer = w.1.1.1 }
+    record { value = w.0; buffer = w.1 }

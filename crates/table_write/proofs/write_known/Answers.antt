@@ -1,10 +1,9 @@
 -- `table_write::write_known` meets its contract: 44 where the place found is no node's, else the table over what is kept.
-use mathlib.Core.Path.{◌∙◌}
 use Rattle.table_write.proofs.Known.{known-none, known-few, known-table}
 use Rattle.table_write.proofs.write_known.Goals as goal
 
 pub returns-then-c-a : goal.returns-then-c-a
-returns-then-c-a c = let a = c.args in c.no_table.ensures ∙ known-none a.c a.s c.place_of-a.ensures c.if-c-a.true
+returns-then-c-a c = let a = c.args in known-none a.c a.s c.place_of-a.ensures c.if-c-a.true
 
 pub table_over-requires : goal.table_over-requires
 table_over-requires c = let a = c.args in known-few a.c a.s c.place_of-a.ensures c.if-c-a.false

@@ -2,47 +2,39 @@
 use native.Mathlib.Omega.{arith}
 use Rattle.buffer.specs.Bytes.{Bytes}
 use Rattle.table_write_door.specs.Calls.{station}
-use Rattle.table_write_door.proofs.Laws.{told, near, unread, nobody, short, stored}
-use borrow.Author.Rules.{rules}
+use Rattle.table_write_door.proofs.Laws.{near, unread, told, nobody, short, stored}
 use Rattle.table_write_door.proofs.pz_table.Goals as goal
 
 pub overflow_cast-place : goal.overflow_cast-place
 overflow_cast-place c =
     let a = c.args in
-    let g = c.read_chart-read.ensures in
-    record { fits = omega (arith, near a.chart.now (station a.brigade a.node) a.table.now g (λ i. omega (arith, c.type_inv.chart i))) }
+    record { fits = omega (arith, near a.chart.now (station a.brigade a.node) a.table.now c.in-Err.fault c.in-Err.ensures (λ i. omega (arith, c.type_inv.chart i))) }
 
-pub returns-then-read-ne0 : goal.returns-then-read-ne0
-returns-then-read-ne0 c =
+pub returns-in-Err : goal.returns-in-Err
+returns-in-Err c = let a = c.args in unread a.chart.now (station a.brigade a.node) a.table.now c.in-Err.fault c.in-Err.ensures c.number.ensures
+
+pub returns-in-Err-write_known : goal.returns-in-Err-write_known
+returns-in-Err-write_known c =
     let a = c.args in
     let s = station a.brigade a.node in
-    let g = c.read_chart-read.ensures in
-    told a.chart.now s a.table.now g (unread a.chart.now s a.table.now g c.if-read-ne0.true)
-
-pub returns-then-w-ne0 : goal.returns-then-w-ne0
-returns-then-w-ne0 c =
-    let a = c.args in
-    let s = station a.brigade a.node in
-    let g = c.read_chart-read.ensures in
     let bytes : Bytes a.chart.now = λ i. omega (arith, c.type_inv.chart i) in
-    let w = c.write_known-w.ensures in
-    told a.chart.now s a.table.now g (nobody a.chart.now s a.table.now g bytes c.if-read-ne0.false w c.if-w-ne0.true)
+    let g = c.in-Ok.ensures in
+    told a.chart.now s a.table.now bytes g (nobody a.chart.now s a.table.now bytes g c.in-Err-write_known.refusal c.in-Err-write_known.ensures c.number-in-Err-write_known.ensures)
 
 pub returns-then-table-lt-TABLE_SIZE : goal.returns-then-table-lt-TABLE_SIZE
 returns-then-table-lt-TABLE_SIZE c =
     let a = c.args in
     let s = station a.brigade a.node in
-    let g = c.read_chart-read.ensures in
     let bytes : Bytes a.chart.now = λ i. omega (arith, c.type_inv.chart i) in
-    let w = c.write_known-w.ensures in
-    told a.chart.now s a.table.now g
-    (short a.chart.now s a.table.now g bytes c.if-read-ne0.false w c.if-w-ne0.false c.if-table-lt-TABLE_SIZE.true)
+    let g = c.in-Ok.ensures in
+    told a.chart.now s a.table.now bytes g
+    (short a.chart.now s a.table.now bytes g c.in-Ok-write_known.ensures.0 c.if-table-lt-TABLE_SIZE.true c.number-then-table-lt-TABLE_SIZE.ensures)
 
 pub returns : goal.returns
 returns c =
     let a = c.args in
     let s = station a.brigade a.node in
-    let g = c.read_chart-read.ensures in
     let bytes : Bytes a.chart.now = λ i. omega (arith, c.type_inv.chart i) in
-    told a.chart.now s a.table.now g
-    (stored a.chart.now s a.table.now g bytes c.if-read-ne0.false c.write_known-w.ensures c.if-w-ne0.false c.if-table-lt-TABLE_SIZE.false c.put_table.ensures)
+    let g = c.in-Ok.ensures in
+    told a.chart.now s a.table.now bytes g
+    (stored a.chart.now s a.table.now bytes g c.in-Ok-write_known.ensures.0 c.if-table-lt-TABLE_SIZE.false c.in-Ok-write_known.ensures.1 c.put_table.ensures)

@@ -4,6 +4,8 @@ use mathlib.Core.Path.{sym, ◌∙◌}
 use native.Mathlib.Omega.{arith}
 use borrow.Author.Tests.{lt-ltb, le-ltb}
 use Rattle.lists.proofs.Chains.{stops, passes, or-stops, or-passes}
+use Rattle.refusal.proofs.Laws.{names}
+use Rattle.refusal.proofs.Passed.{passed}
 use Rattle.chart_refuse.specs.Private.{KeyedNodes}
 use Rattle.chart_refuse.proofs.ByKeys.{keyed-of, question-keyed}
 use Rattle.chart_refuse.specs.Refusal.{chart_values_refusal, chart_refusal}
@@ -17,20 +19,22 @@ pub returns-then-links-gt-MOST_LINKS : goal.returns-then-links-gt-MOST_LINKS
 unfolding chart_refusal
 returns-then-links-gt-MOST_LINKS c = passes 26 (le-ltb _ _ c.if-nodes-gt-MOST_NODES.false) (stops 26 _ (lt-ltb _ _ c.if-links-gt-MOST_LINKS.true))
 
-pub returns-then-k-ne0 : goal.returns-then-k-ne0
+pub returns-in_err-nodes_refusal : goal.returns-in_err-nodes_refusal
 unfolding chart_values_refusal chart_refusal
-returns-then-k-ne0 c =
-    passes 26 (le-ltb _ _ c.if-nodes-gt-MOST_NODES.false)
+returns-in_err-nodes_refusal c =
+    passed _ _ c.from_residual.ensures.1
+    (passes 26 (le-ltb _ _ c.if-nodes-gt-MOST_NODES.false)
     (passes 26 (le-ltb _ _ c.if-links-gt-MOST_LINKS.false)
-    (or-stops _ c.nodes_refusal-k.ensures c.if-k-ne0.true))
+    (or-stops _ c.in_err-nodes_refusal.ensures (names.none_zero _))))
 
-pub returns-then-k-ne0-2 : goal.returns-then-k-ne0-2
+pub returns-in_err-links_refusal : goal.returns-in_err-links_refusal
 unfolding chart_values_refusal chart_refusal
-returns-then-k-ne0-2 c =
-    passes 26 (le-ltb _ _ c.if-nodes-gt-MOST_NODES.false)
+returns-in_err-links_refusal c =
+    passed _ _ c.from_residual-in_err-links_refusal.ensures.1
+    (passes 26 (le-ltb _ _ c.if-nodes-gt-MOST_NODES.false)
     (passes 26 (le-ltb _ _ c.if-links-gt-MOST_LINKS.false)
-    (or-passes (sym c.nodes_refusal-k.ensures ∙ c.if-k-ne0.false)
-    (or-stops _ c.links_refusal-k.ensures c.if-k-ne0-2.true)))
+    (or-passes (sym c.in_ok-nodes_refusal.ensures)
+    (or-stops _ c.in_err-links_refusal.ensures (names.none_zero _)))))
 
 pub returns : goal.returns
 unfolding chart_values_refusal chart_refusal
@@ -40,6 +44,6 @@ returns c =
     let keyed : KeyedNodes c.args.c.nodes c.station_keys-keys.result = keyed-of _ _ c.if-nodes-gt-MOST_NODES.false c.station_keys-keys.ensures in
     passes 26 (le-ltb _ _ c.if-nodes-gt-MOST_NODES.false)
     (passes 26 (le-ltb _ _ c.if-links-gt-MOST_LINKS.false)
-    (or-passes (sym c.nodes_refusal-k.ensures ∙ c.if-k-ne0.false)
-    (or-passes (sym c.links_refusal-k.ensures ∙ c.if-k-ne0-2.false)
+    (or-passes (sym c.in_ok-nodes_refusal.ensures)
+    (or-passes (sym c.in_ok-links_refusal.ensures)
     (c.question_refusal.ensures ∙ question-keyed c.args.c.nodes _ keyed _ c.args.c.from c.args.c.to from-fits to-fits))))

@@ -4,7 +4,7 @@ use mathlib.Core.Bool.{Bool, true}
 use Rattle.address.specs.declared.Port.{Port}
 use Rattle.address.specs.declared.Address.{Address}
 use Rattle.table.specs.declared.Table.{Table}
-use Rattle.table.specs.declared.Choice.{Choice}
+use Rattle.table.specs.Choice.{Choice}
 use Rattle.table.specs.Table.{table_in_range, call_in_range, choose_of}
 use Rattle.table.specs.Private.{choice_for}
 use Rattle.table.proofs.Laws.{chosen-tested}

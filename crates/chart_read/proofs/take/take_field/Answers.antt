@@ -1,4 +1,4 @@
--- `chart_read::keys::take_field` meets its contract: a field that is cut short is 21, else its tag decides, and then its body.
+-- `chart_read::take::take_field` meets its contract: a field that is cut short is 21, else its tag decides, and then its body.
 use Prim.Native.Nat.{◌≤◌}
 use mathlib.Core.Path.{refl}
 use native.Mathlib.Omega.{arith}
@@ -8,7 +8,7 @@ use Rattle.chart_read.specs.Fields.{past_field}
 use Rattle.chart_read.specs.Reading.{body_refusal}
 use Rattle.chart_read.proofs.Laws.{form-tag, no-form, field_cut, field-whole, tag-later}
 use Rattle.chart_read.proofs.Taking.{field-takes, field-refused}
-use Rattle.chart_read.proofs.keys.take_field.Goals as goal
+use Rattle.chart_read.proofs.take.take_field.Goals as goal
 
 pub returns-then-bytes-at : goal.returns-then-bytes-at
 returns-then-bytes-at c = field-refused _ _ _ 20 (field_cut _ _ _ (omega (arith, c.if-bytes-at.true)))
@@ -20,13 +20,13 @@ pub take_link-requires : goal.take_link-requires
 take_link-requires c = form-tag _ c.in-2.is
 
 pub returns-in-1 : goal.returns-in-1
-returns-in-1 c = field-takes _ _ _ c.past_field.ensures c.if-bytes-past_field.false c.in-1.is c.body_at-b.ensures (c.take_node.ensures _ _)
+returns-in-1 c = field-takes _ _ _ c.past_field.ensures c.if-bytes-past_field.false c.in-1.is c.body_at-b.ensures c.take_node.ensures
 
 pub returns-in-2 : goal.returns-in-2
 returns-in-2 c = field-takes _ _ _ c.past_field.ensures c.if-bytes-past_field.false refl c.body_at-b.ensures c.take_link.ensures
 
 pub returns-in-3 : goal.returns-in-3
-returns-in-3 c = field-takes _ _ _ c.past_field.ensures c.if-bytes-past_field.false c.in-3.is c.body_at-b.ensures (c.take_question.ensures _ _)
+returns-in-3 c = field-takes _ _ _ c.past_field.ensures c.if-bytes-past_field.false c.in-3.is c.body_at-b.ensures c.take_question.ensures
 
 pub returns-in_default : goal.returns-in_default
 unfolding body_refusal
