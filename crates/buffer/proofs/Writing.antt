@@ -1,9 +1,13 @@
 -- What a writer's answer says of its number and of the bytes written.
 use Prim.Native.Nat.{ℕ, zero, suc}
-use mathlib.Core.Path.{◌≡◌, refl}
+use mathlib.Core.Path.{◌≡◌, refl, ap}
 use native.Mathlib.Omega.{arith}
+use Rattle.std.specs.Prelude.{Result, Ok, Err}
 use Rattle.lists.specs.Refusals.{unless_refused}
-use Rattle.buffer.specs.Writing.{Wrote, Refused, written_refusal, written_count, wrote_unless}
+use Rattle.refusal.specs.declared.Refusal.{Refusal}
+use Rattle.refusal.specs.Numbers.{Answers}
+use Rattle.refusal.proofs.Laws.{names}
+use Rattle.buffer.specs.Writing.{Wrote, Refused, written, written_refusal, written_count, wrote_unless}
 
 pub wrote-refusal : (k n : ℕ) → written_refusal (wrote_unless k n) ≡ k
 unfolding wrote_unless unless_refused
@@ -30,3 +34,15 @@ pub wrote-refused : (k n : ℕ) → (k ≡ 0 → ⊥) → Refused k ≡ wrote_un
 unfolding wrote_unless unless_refused
 wrote-refused zero n h = absurd (h refl)
 wrote-refused (suc k) n h = refl
+
+-- what a writer tells: its answer, and document 01's number and value of it
+pub record Tells (x : Result ℕ Refusal) (k n : ℕ) : Type 0 where
+  pub answer : written x ≡ wrote_unless k n
+  pub refusal : written_refusal (written x) ≡ k
+  pub count : written_count (written x) ≡ unless_refused k n 0
+
+pub tells : (x : Result ℕ Refusal) (k n : ℕ) → Answers x k n → Tells x k n
+unfolding wrote_unless unless_refused
+tells (Ok m) k n h = rw (h.0, h.1) (record { answer = refl; refusal = refl; count = refl })
+tells (Err r) zero n h = absurd (names.none_zero r h)
+tells (Err r) (suc k) n h = record { answer = ap Refused h; refusal = h; count = refl }

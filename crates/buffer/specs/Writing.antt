@@ -1,11 +1,18 @@
 -- What a writer of bytes answers: how many it wrote, or a refusal (document 01, "What form each place takes": an enum's numbers and values).
-use Rattle.std.specs.Prelude.{ℕ, List, ◌++◌, length, drop}
+use Rattle.std.specs.Prelude.{ℕ, List, ◌++◌, length, drop, Result, Ok, Err}
 use Rattle.lists.specs.Refusals.{unless_refused}
+use Rattle.refusal.specs.declared.Refusal.{Refusal}
+use Rattle.refusal.specs.Numbers.{number}
 
 -- how many bytes were written, or a refusal's number
 pub data Written : Type 0 where
   Wrote : ℕ → Written
   Refused : ℕ → Written
+
+-- what a writer's result is as an answer
+abbrev pub written : Result ℕ Refusal → Written
+written (Ok n) = Wrote n
+written (Err r) = Refused (number r)
 
 -- document 01's number and value for each case of an answer: no byte is written beside a refusal
 abbrev pub written_refusal : Written → ℕ

@@ -1,7 +1,7 @@
 // Bytes of a slice, read and stored at any place: a place past the end reads as 0, and nothing is stored there.
 #![tactic(auto)]
 
-ghost use Rattle.std.specs.Prelude.{◌≡◌, get_or, replicate};
+ghost use Rattle.std.specs.Prelude.{◌≡◌, ◌+◌, ◌≤◌, length, get_or, replicate};
 ghost use Rattle.std.proofs.lemmas.List.Edits.{sets};
 ghost use Rattle.buffer.specs.Bytes.{word_at};
 
@@ -23,6 +23,17 @@ pub fn word_at(s: &[u8], at: usize) -> u16
     }
 }
 
+// Stores the bytes of src from a place on, where all of them fit. Byte by byte: of a slice copied whole the compiler makes a call of memmove,
+// which C's linker would have to find.
+fn store_all(out: &mut [u8], at: usize, src: &[u8])
+    requires { at + length src.now ≤ length out.old }
+    ensures { out.new ≡ sets out.old at src.now }
+{
+    for (i, b) in src.iter().enumerate() {
+        out[at + i] = *b;
+    }
+}
+
 // Stores the bytes of src from a place on; those past the end of out are left out.
 pub fn put_all(out: &mut [u8], at: usize, src: &[u8])
     ensures { out.new ≡ sets out.old at src.now }
@@ -32,10 +43,10 @@ pub fn put_all(out: &mut [u8], at: usize, src: &[u8])
     }
     let room = out.len() - at;
     if room < src.len() {
-        out[at..].copy_from_slice(&src[..room]);
+        store_all(out, at, &src[..room]);
         return;
     }
-    out[at..at + src.len()].copy_from_slice(src);
+    store_all(out, at, src);
 }
 
 // Stores n zeros from a place on; those past the end of out are left out.

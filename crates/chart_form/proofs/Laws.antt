@@ -12,6 +12,10 @@ use Rattle.lists.proofs.Bools.{and_left, and_right, and_both}
 use Rattle.lists.proofs.Places.{any_false}
 use Rattle.lists.proofs.Refusals.{pass, or-pass, refused}
 use Rattle.lists.proofs.Chains.{or-stops}
+use Rattle.std.specs.Prelude.{Result, Ok, Err}
+use Rattle.refusal.specs.declared.Fault.{Fault}
+use Rattle.refusal.specs.Numbers.{AnswersAt}
+use Rattle.refusal.proofs.Laws.{names}
 use Rattle.buffer.specs.Writing.{lent_after}
 use Rattle.chart.specs.declared.Link.{Link}
 use Rattle.chart.specs.declared.Links.{Links}
@@ -24,7 +28,7 @@ use Rattle.chart_read.specs.Fields.{is_form}
 use Rattle.chart_read.specs.Reading.{read_chart_of}
 use Rattle.chart_write.specs.Writing.{longest_chart, chart_bytes, chart_write_refusal, chart_after}
 use Rattle.chart_write.proofs.Promises.{chart_short}
-use Rattle.chart_form.specs.Moving.{in_form, one_way_at, one_way, moved_bytes, move_refusal, moved_after}
+use Rattle.chart_form.specs.Moving.{in_form, one_way_at, one_way, moved_bytes, move_refusal, Moved, moved, move_of, moved_after}
 use Rattle.chart_form.proofs.Read.{was_read}
 
 -- ---- in another form
@@ -107,6 +111,18 @@ moved-short form known bytes room = by (move_refusal form bytes room) refl
     by (suc n) e = omega arith
 
 -- ---- the answer
+
+moved-told : (x : Result ℕ Fault) (k p n : ℕ) → AnswersAt x k p (unless_refused k n 0) → ◌≡◌ {A = Moved} (moved x) (record { refusal = k; place = p; written = unless_refused k n 0 })
+unfolding unless_refused
+moved-told (Ok m) k p n h = λ i. record { refusal = sym h.0 i; place = sym h.1.0 i; written = h.1.1 i }
+moved-told (Err f) zero p n h = absurd (names.none_zero f.refusal h.0)
+moved-told (Err f) (suc k) p n h = λ i. record { refusal = h.0 i; place = h.1 i; written = 0 }
+
+-- what a result's number, place and count say of the answer
+pub move-answer : (form : ℕ) (bytes : List ℕ) (room : ℕ) (x : Result ℕ Fault)
+    → AnswersAt x (move_of form bytes room).refusal (move_of form bytes room).place (move_of form bytes room).written → moved x ≡ move_of form bytes room
+unfolding move_of
+move-answer form bytes room x h = moved-told x (move_refusal form bytes room) (read_chart_of bytes).place (length (moved_bytes form bytes)) h
 
 module _ (form : ℕ) (bytes out : List ℕ) where
   abbrev k : ℕ

@@ -1,7 +1,9 @@
 -- A chart moved to the other form of links (document 02, Five): renewed to the directed one, restored to the plain one. Bytes in, bytes out.
-use Rattle.std.specs.Prelude.{ℕ, Bool, not, ◌&&◌, List, eqb, ltb, length}
+use Rattle.std.specs.Prelude.{ℕ, Bool, not, ◌&&◌, List, eqb, ltb, length, Result, Ok, Err}
 use Rattle.lists.specs.Places.{any_below}
 use Rattle.lists.specs.Refusals.{refuse, or_else, unless_refused}
+use Rattle.refusal.specs.declared.Fault.{Fault}
+use Rattle.refusal.specs.Numbers.{number}
 use Rattle.buffer.specs.Writing.{lent_after}
 use Rattle.chart.specs.declared.Links.{Links}
 use Rattle.chart.specs.declared.Chart.{Chart}
@@ -42,6 +44,11 @@ pub record Moved : Type 0 where
   pub refusal : ℕ
   pub place : ℕ
   pub written : ℕ
+
+-- what the result of a move is as an answer: no byte is written beside a refusal
+abbrev pub moved : Result ℕ Fault → Moved
+moved (Ok n) = record { refusal = 0; place = 0; written = n }
+moved (Err f) = record { refusal = number f.refusal; place = f.place; written = 0 }
 
 unfoldable pub move_of : ℕ → List ℕ → ℕ → Moved
 move_of form bytes room =

@@ -5,7 +5,7 @@ ghost use Rattle.std.specs.Prelude.{◌≡◌, true, ◌≤◌, length};
 ghost use Rattle.refusal.specs.Numbers.{AnswersAt};
 ghost use Rattle.chart.specs.Values.{most_links, plain, directed};
 ghost use Rattle.chart_read.specs.Fields.{is_form};
-ghost use Rattle.chart_form.specs.Moving.{in_form, one_way, move_of, moved_after};
+ghost use Rattle.chart_form.specs.Moving.{in_form, one_way, moved, move_of, moved_after};
 
 use chart::{BOTH_WAYS, Chart, DIRECTED, Links, PLAIN};
 use refusal::{Fault, Refusal};
@@ -39,6 +39,7 @@ fn move_to(form: u8, bytes: &[u8], out: &mut [u8]) -> Result<usize, Fault>
     requires { is_form form ≡ true }
     ensures value { AnswersAt result (move_of form bytes.now (length out.old)).refusal (move_of form bytes.now (length out.old)).place (move_of form bytes.now (length out.old)).written }
     ensures buffer { out.new ≡ moved_after form bytes.now out.old }
+    ensures answer { moved result ≡ move_of form bytes.now (length out.old) }
 {
     let c = chart_read::read_chart(bytes)?;
     if (form == PLAIN) & one_way(c.links) {
@@ -57,6 +58,7 @@ fn move_to(form: u8, bytes: &[u8], out: &mut [u8]) -> Result<usize, Fault>
 pub fn renew(bytes: &[u8], out: &mut [u8]) -> Result<usize, Fault>
     ensures value { AnswersAt result (move_of directed bytes.now (length out.old)).refusal (move_of directed bytes.now (length out.old)).place (move_of directed bytes.now (length out.old)).written }
     ensures buffer { out.new ≡ moved_after directed bytes.now out.old }
+    ensures answer { moved result ≡ move_of directed bytes.now (length out.old) }
 {
     move_to(DIRECTED, bytes, out)
 }
@@ -65,6 +67,7 @@ pub fn renew(bytes: &[u8], out: &mut [u8]) -> Result<usize, Fault>
 pub fn restore(bytes: &[u8], out: &mut [u8]) -> Result<usize, Fault>
     ensures value { AnswersAt result (move_of plain bytes.now (length out.old)).refusal (move_of plain bytes.now (length out.old)).place (move_of plain bytes.now (length out.old)).written }
     ensures buffer { out.new ≡ moved_after plain bytes.now out.old }
+    ensures answer { moved result ≡ move_of plain bytes.now (length out.old) }
 {
     move_to(PLAIN, bytes, out)
 }

@@ -1,5 +1,5 @@
 -- The call, at each return: the test that held decides the number, and what becomes of the buffers.
-use Prim.Native.Nat.{ℕ, ◌<◌, ◌≤◌}
+use Prim.Native.Nat.{ℕ, zero, suc, ◌<◌, ◌≤◌}
 use mathlib.Core.Path.{◌≡◌, refl, sym, ap, ◌∙◌}
 use mathlib.Core.List.{List}
 use Rattle.std.specs.Prelude.{Result, Ok, Err}
@@ -9,6 +9,7 @@ use lib.ListN.{length, replicate, take, length-replicate}
 use lib.Seq.{sets, length-sets}
 use lib.Dec.{ltb, leb}
 use borrow.Author.Tests.{lt-ltb, le-ltb, ltb-false, leb-true, not-false}
+use Rattle.lists.specs.Refusals.{unless_refused}
 use Rattle.lists.proofs.Refusals.{pass, taken, refused}
 use Rattle.lists.proofs.Chains.{stops, passes}
 use Rattle.lists.proofs.Stores.{sets-front, taken-front}
@@ -18,7 +19,7 @@ use Rattle.refusal.specs.declared.Refusal.{Refusal}
 use Rattle.refusal.specs.Numbers.{number, Answers}
 use Rattle.refusal.proofs.Laws.{names}
 use Rattle.chart_mend.specs.declared.MendedSizes.{MendedSizes}
-use Rattle.chart_mend.specs.Mending.{held_of, kept_bytes, list_bytes, mend_refusal, Mended, mend_of, sizes_of}
+use Rattle.chart_mend.specs.Mending.{held_of, kept_bytes, list_bytes, mend_refusal, Mended, mended, mend_of, sizes_of}
 use Rattle.chart_mend.specs.Promises.{WholeMends}
 
 -- ---- the number
@@ -80,6 +81,20 @@ module _ (input : List ℕ) (room list_room : ℕ) where
       → record { refusal = 0; kept = m; listed = n } ≡ mend_of input room list_room
   unfolding mend_of
   taken-answer p q e = λ i. record { refusal = e i; kept = (p ∙ sym (taken _ 0 (sym e))) i; listed = (q ∙ sym (taken _ 0 (sym e))) i }
+
+-- ---- what a result's number and sizes say of the answer
+
+mended-told : (x : Result MendedSizes Refusal) (k m n : ℕ) → Answers x k (record { kept = unless_refused k m 0; listed = unless_refused k n 0 })
+    → ◌≡◌ {A = Mended} (mended x) (record { refusal = k; kept = unless_refused k m 0; listed = unless_refused k n 0 })
+unfolding unless_refused
+mended-told (Ok s) k m n h = λ i. record { refusal = sym h.0 i; kept = (h.1 i).kept; listed = (h.1 i).listed }
+mended-told (Err r) zero m n h = absurd (names.none_zero r h)
+mended-told (Err r) (suc k) m n h = λ i. record { refusal = h i; kept = 0; listed = 0 }
+
+pub mend-answer : (input : List ℕ) (room list_room : ℕ) (x : Result MendedSizes Refusal)
+    → Answers x (mend_of input room list_room).refusal (sizes_of (mend_of input room list_room)) → mended x ≡ mend_of input room list_room
+unfolding mend_of
+mend-answer input room list_room x h = mended-told x (mend_refusal input room list_room) (length (kept_bytes input)) (length (list_bytes input)) h
 
 -- ---- the answer and both buffers
 

@@ -1,6 +1,8 @@
 -- Mending a chart (document 02, Twelve): the fields from the front, each kept if the reader would take it after those kept so far, else dropped and listed.
-use Rattle.std.specs.Prelude.{ℕ, suc, zero, ◌-◌, List, [], ◌∷◌, ◌++◌, not, cond, length, take, drop, ltb, leb, eqb}
+use Rattle.std.specs.Prelude.{ℕ, suc, zero, ◌-◌, List, [], ◌∷◌, ◌++◌, not, cond, length, take, drop, ltb, leb, eqb, Result, Ok, Err}
 use Rattle.lists.specs.Refusals.{refuse, unless_refused}
+use Rattle.refusal.specs.declared.Refusal.{Refusal}
+use Rattle.refusal.specs.Numbers.{number}
 use Rattle.buffer.specs.Bytes.{word_bytes}
 use Rattle.chart_read.specs.Fields.{tag_at, body_at, past_field}
 use Rattle.chart_read.specs.Reading.{SoFar, nothing, with_body, refusing, field_refusal}
@@ -93,6 +95,11 @@ pub record Mended : Type 0 where
   pub refusal : ℕ
   pub kept : ℕ
   pub listed : ℕ
+
+-- what the result of the call is as an answer
+abbrev pub mended : Result MendedSizes Refusal → Mended
+mended (Ok s) = record { refusal = 0; kept = s.kept; listed = s.listed }
+mended (Err r) = record { refusal = number r; kept = 0; listed = 0 }
 
 unfoldable pub mend_of : List ℕ → ℕ → ℕ → Mended
 mend_of bytes room list_room =

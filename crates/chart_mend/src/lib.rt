@@ -5,7 +5,7 @@ ghost use Rattle.std.specs.Prelude.{◌≡◌, [], ◌∷◌, ◌++◌, ◌<◌,
 ghost use Rattle.refusal.specs.Numbers.{number, Answers};
 ghost use Rattle.buffer.specs.Bytes.{word_bytes};
 ghost use Rattle.buffer.specs.Writing.{lent_after};
-ghost use Rattle.chart_mend.specs.Mending.{longest_input, kept_bytes, list_bytes, mend_refusal, mend_of, sizes_of};
+ghost use Rattle.chart_mend.specs.Mending.{longest_input, kept_bytes, list_bytes, mend_refusal, mended, mend_of, sizes_of};
 ghost use Rattle.chart_mend.specs.Private.{PassedOver};
 
 use chart_read::{field_end, no_keys, take_field};
@@ -81,6 +81,7 @@ pub fn mend(input: &[u8], out: &mut [u8], list: &mut [u8]) -> Result<MendedSizes
     ensures value { Answers result (mend_of input.now (length out.old) (length list.old)).refusal (sizes_of (mend_of input.now (length out.old) (length list.old))) }
     ensures chart { out.new ≡ lent_after (mend_refusal input.now (length out.old) (length list.old)) (kept_bytes input.now) out.old }
     ensures list { list.new ≡ lent_after (mend_refusal input.now (length out.old) (length list.old)) (list_bytes input.now) list.old }
+    ensures answer { mended result ≡ mend_of input.now (length out.old) (length list.old) }
 {
     if LONGEST_INPUT < input.len() {
         return Err(Refusal::ChartLong);

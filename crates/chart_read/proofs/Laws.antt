@@ -156,6 +156,10 @@ module _ (bytes : List ℕ) (at : ℕ) where
   unfolding field_end
   end-cut h = rw (lt-ltb (length bytes) (past_field bytes at) h)
 
+  pub end_whole : (next : ℕ) → next ≡ past_field bytes at → next ≤ length bytes → next ≡ field_end bytes at
+  unfolding field_end
+  end_whole next e h = e ∙ tag-later _ (le-ltb (length bytes) (past_field bytes at) (omega arith)) refl
+
   pub end-least : min (past_field bytes at) (length bytes) ≡ field_end bytes at
   unfolding field_end
   end-least = by (ltb (length bytes) (past_field bytes at)) refl

@@ -1,6 +1,8 @@
 -- The chart's reader (document 01, "The chart"; document 02, Five): the fields one after the other. The first bad field decides, and in it the lowest number.
-use Rattle.std.specs.Prelude.{ℕ, suc, zero, ◌+◌, List, Bool, true, false, not, cond, ◌&&◌, ◌||◌, length, get_or, set, ltb, leb, eqb}
+use Rattle.std.specs.Prelude.{ℕ, suc, zero, ◌+◌, List, Bool, true, false, not, cond, ◌&&◌, ◌||◌, length, get_or, set, ltb, leb, eqb, Result, Ok, Err}
 use Rattle.lists.specs.Refusals.{refuse}
+use Rattle.refusal.specs.declared.Fault.{Fault}
+use Rattle.refusal.specs.Numbers.{number}
 use Rattle.address.specs.declared.Station.{Station}
 use Rattle.address_bytes.specs.Wide.{station_in}
 use Rattle.chart.specs.declared.ChartNode.{ChartNode}
@@ -127,6 +129,11 @@ pub record ChartRead : Type 0 where
 -- a refusal and the place where its field begins, beside a chart of zeros
 abbrev pub refused_at : ℕ → ℕ → ChartRead
 refused_at k at = record { refusal = k; place = at; chart = no_chart }
+
+-- what the reader's result is as an answer: beside a refusal the chart of zeros
+abbrev pub chart_answer : Result Chart Fault → ChartRead
+chart_answer (Ok c) = record { refusal = 0; place = 0; chart = c }
+chart_answer (Err f) = record { refusal = number f.refusal; place = f.place; chart = no_chart }
 
 -- the input's end: the chart, or 31 at the input's length where the question is missing
 abbrev pub at_end : SoFar → ℕ → ChartRead

@@ -1,8 +1,9 @@
 // The chart's reader (document 01, "The chart"; document 02, Five): tagged fields, taken one after the other.
 #![tactic(auto)]
 
+ghost use Rattle.std.specs.Prelude.{◌≡◌};
 ghost use Rattle.refusal.specs.Numbers.{AnswersAt};
-ghost use Rattle.chart_read.specs.Reading.{read_chart_of};
+ghost use Rattle.chart_read.specs.Reading.{chart_answer, read_chart_of};
 
 use bodies::{body_at, link_in, node_in, past_field};
 use chart::{Chart, DIRECTED, Links, Nodes, PLAIN};
@@ -40,7 +41,8 @@ pub struct Keys {
 // The chart that the bytes are, or what refuses the first bad field and its place. The keys of its nodes and of its links' ends are kept beside
 // them, so that a field is compared with those before it by one number each.
 pub fn read_chart(bytes: &[u8]) -> Result<Chart, Fault>
-    ensures { AnswersAt result (read_chart_of bytes.now).refusal (read_chart_of bytes.now).place (read_chart_of bytes.now).chart }
+    ensures value { AnswersAt result (read_chart_of bytes.now).refusal (read_chart_of bytes.now).place (read_chart_of bytes.now).chart }
+    ensures answer { chart_answer result ≡ read_chart_of bytes.now }
 {
     let no_node = chart::no_node();
     let no_link = chart::no_link();

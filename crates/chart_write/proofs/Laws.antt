@@ -12,11 +12,13 @@ use borrow.Author.Tests.{lt-ltb, le-ltb, eq-eqb, ne_eqb}
 use Rattle.lists.specs.Places.{element_at, firsts, joined}
 use Rattle.lists.specs.Refusals.{unless_refused}
 use Rattle.buffer.specs.Bytes.{word_bytes}
+use Rattle.buffer.specs.Writing.{Written, Wrote, Refused, written_refusal, written_count, wrote_unless}
 use Rattle.lists.proofs.Places.{length-firsts, length-joined, joined-none}
 use Rattle.lists.proofs.Refusals.{taken, refused}
 use Rattle.lists.proofs.Chains.{or-stops}
 use Rattle.lists.proofs.Stores.{sets-append, sets-front}
 use Rattle.lists.proofs.Runs.{length-joined-next, joined-within, joined-most}
+use Rattle.buffer.proofs.Writing.{wrote-refusal, wrote_count, wrote-taken, wrote-refused}
 use Rattle.address.specs.declared.Station.{Station}
 use Rattle.address_bytes.specs.Wide.{station_bytes, address_bytes}
 use Rattle.chart.specs.declared.ChartNode.{ChartNode}
@@ -29,7 +31,7 @@ use Rattle.chart.proofs.Laws.{node-taken}
 use Rattle.chart_refuse.specs.Refusal.{chart_refusal}
 use Rattle.chart_read.specs.Fields.{node_tag, question_tag, shortest_node, longest_node, directed_length, link_length, question_length, tagged}
 use Rattle.chart_read.proofs.Laws.{link-length-bounds}
-use Rattle.chart_write.specs.Writing.{node_body, on_byte, direction_bytes, link_body, question_body, node_field, link_field, question_field, head_size, link_field_size, question_field_size, longest_node_field, chart_bytes, chart_write_refusal, chart_after}
+use Rattle.chart_write.specs.Writing.{node_body, on_byte, direction_bytes, link_body, question_body, node_field, link_field, question_field, head_size, link_field_size, question_field_size, longest_node_field, chart_bytes, chart_write_refusal, write_chart_of, chart_after}
 use Rattle.chart_write.specs.Private.{Short}
 use Rattle.chart_refuse.proofs.Laws.{passed, node_of}
 
@@ -181,6 +183,35 @@ module _ (c : Chart) (out : List ℕ) where
   pub chart-stored : chart_write_refusal c (length out) ≡ 0 → length (chart_bytes c) ≤ length out → sets out 0 (chart_bytes c) ≡ chart_after c out
   unfolding chart_after
   chart-stored e h = sets-front out (chart_bytes c) h ∙ sym (taken _ _ e)
+
+pub write-told : (c : Chart) (out : List ℕ) (r : Written) → r ≡ write_chart_of c (length out)
+    → (written_refusal r ≡ chart_write_refusal c (length out)) × (written_count r ≡ unless_refused (chart_write_refusal c (length out)) (length (chart_bytes c)) 0)
+unfolding write_chart_of
+write-told c out r e = (ap written_refusal e ∙ wrote-refusal _ _, ap written_count e ∙ wrote_count _ _)
+
+-- what is answered, and what the buffer then holds
+pub record Answer (c : Chart) (out : List ℕ) (r : Written) (after : List ℕ) : Type 0 where
+  pub answer : r ≡ write_chart_of c (length out)
+  pub buffer : after ≡ chart_after c out
+
+refused_as : (c : Chart) (out : List ℕ) (k : ℕ) → k ≡ chart_write_refusal c (length out) → (k ≡ 0 → ⊥) → Answer c out (Refused k) out
+unfolding write_chart_of
+refused_as c out k e h = record {
+  answer = wrote-refused k _ h ∙ ap (λ (j : ℕ). wrote_unless j (length (chart_bytes c))) e;
+  buffer = chart-left c out e h;
+}
+
+pub answer-refused : (c : Chart) (out : List ℕ) {k : ℕ} → k ≡ chart_refusal c → (k ≡ 0 → ⊥) → Answer c out (Refused k) out
+answer-refused c out {k} e h = refused_as c out k (write-refused c (length out) e h) h
+
+pub answer-short : (c : Chart) (out : List ℕ) → chart_refusal c ≡ 0 → length out < length (chart_bytes c) → Answer c out (Refused 10) out
+answer-short c out z h = refused_as c out 10 (write-short c (length out) z h) (λ e. omega arith)
+
+pub write-wrote : (c : Chart) (out : List ℕ) → chart_refusal c ≡ 0 → length (chart_bytes c) ≤ length out → Answer c out (Wrote (length (chart_bytes c))) (sets out 0 (chart_bytes c))
+unfolding write_chart_of
+write-wrote c out z h =
+    let e = refusal-none c (length out) z h in
+    record { answer = wrote-taken _ e; buffer = chart-stored c out e h }
 
 -- ---- fields stored in parts
 

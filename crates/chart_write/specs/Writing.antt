@@ -4,7 +4,7 @@ use Rattle.lists.specs.Places.{element_at, firsts, row, joined}
 use Rattle.lists.specs.Refusals.{refuse, or_else}
 use Rattle.refusal.specs.declared.Refusal.{Refusal}
 use Rattle.refusal.specs.Numbers.{Answers}
-use Rattle.buffer.specs.Writing.{lent_after}
+use Rattle.buffer.specs.Writing.{Written, wrote_unless, lent_after}
 use Rattle.address.specs.declared.Station.{Station}
 use Rattle.address_bytes.specs.Wide.{station_bytes, address_bytes}
 use Rattle.chart.specs.declared.ChartNode.{ChartNode}
@@ -78,7 +78,11 @@ chart_bytes c =
 unfoldable pub chart_write_refusal : Chart → ℕ → ℕ
 chart_write_refusal c room = or_else (chart_refusal c) (refuse 10 (ltb room (length (chart_bytes c))) 0)
 
--- what the writer answers: the number of bytes written, or the refusal
+-- the number of bytes written, or the refusal
+unfoldable pub write_chart_of : Chart → ℕ → Written
+write_chart_of c room = wrote_unless (chart_write_refusal c room) (length (chart_bytes c))
+
+-- the same of the writer's result as the code has it
 abbrev pub WriteAnswers : Chart → ℕ → Result ℕ Refusal → Type 0
 WriteAnswers c room r = Answers r (chart_write_refusal c room) (length (chart_bytes c))
 

@@ -2,8 +2,10 @@
 #![tactic(auto)]
 
 ghost use Rattle.std.specs.Prelude.{◌≡◌, length};
+ghost use Rattle.lists.specs.Refusals.{unless_refused};
 ghost use Rattle.refusal.specs.Numbers.{Answers};
-ghost use Rattle.chart_write.specs.Writing.{chart_bytes, chart_write_refusal, chart_after};
+ghost use Rattle.buffer.specs.Writing.{written, written_refusal, written_count};
+ghost use Rattle.chart_write.specs.Writing.{chart_bytes, chart_write_refusal, write_chart_of, chart_after};
 
 use chart::Chart;
 use chart_refuse::chart_refusal;
@@ -19,6 +21,9 @@ pub use bytes::link_body;
 pub fn write_chart(c: Chart, out: &mut [u8]) -> Result<usize, Refusal>
     ensures value { Answers result (chart_write_refusal c (length out.old)) (length (chart_bytes c)) }
     ensures buffer { out.new ≡ chart_after c out.old }
+    ensures answer { written result ≡ write_chart_of c (length out.old) }
+    ensures refusal { written_refusal (written result) ≡ chart_write_refusal c (length out.old) }
+    ensures count { written_count (written result) ≡ unless_refused (chart_write_refusal c (length out.old)) (length (chart_bytes c)) 0 }
 {
     chart_refusal(c)?;
     let size = chart_size(c);

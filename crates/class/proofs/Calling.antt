@@ -3,6 +3,7 @@ use Prim.Native.Nat.{ℕ}
 use mathlib.Core.Path.{◌≡◌, sym, ap, ap₂, subst, ◌∙◌}
 use mathlib.Core.List.{List}
 use Rattle.std.specs.Prelude.{Result, Ok, Err}
+use Rattle.std.specs.Result.{IsErrAnd}
 use Rattle.refusal.specs.declared.Fault.{Fault}
 use Rattle.refusal.specs.Numbers.{AnswersAt}
 use Rattle.refusal.proofs.Laws.{names}
@@ -126,3 +127,8 @@ given bytes c h = λ i. record { refusal = sym h.0 i; place = sym h.1.0 i; chart
 -- what refuses the chart is no 0
 pub bad : (bytes : List ℕ) (f : Fault) → Reads bytes (Err f) → (read_chart_of bytes).refusal ≡ 0 → ⊥
 bad bytes f h z = names.none_zero f.refusal (h.0 ∙ z)
+
+-- a result that a `?` passes on is that fault
+pub is-fault : {A : Type 0} (x : Result A Fault) (f : Fault) → IsErrAnd x (λ g. g ≡ f) → x ≡ Err f
+is-fault (Ok a) f h = absurd h
+is-fault (Err g) f h = ap Err h

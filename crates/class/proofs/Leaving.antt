@@ -24,8 +24,10 @@ use Rattle.chart_net.specs.Private.{station_place_for}
 use Rattle.chart_net.proofs.Kept.{far-there}
 use Rattle.chart_net.proofs.Places.{crossed, station-eq, station-refl, own-place, place-few}
 use Rattle.table_write.specs.Writing.{near_end}
+use Rattle.std.specs.declared.option.Option.TheVariants.{None, Some}
+use Rattle.class.specs.declared.links.Coming.{Coming}
 use Rattle.class.specs.Class.{is_there, leaves_by, away_end, came_in, came_over, out_by}
-use Rattle.class.specs.Private.{leaves_first, leaves_second, leaves_at}
+use Rattle.class.specs.Private.{coming_of, leaves_first, leaves_second, leaves_at}
 use Rattle.class.proofs.Ends.{away_of, over}
 use Rattle.class.proofs.Ports.{leaves-over}
 
@@ -52,6 +54,15 @@ module _ (ls : Links) (s : Station) (p : Port) where
 
   pub exit-none : {i : ℕ} → i ≡ ls.count → any_below (leaves_at ls s p) i ≡ false → ls.count ≡ first_below (leaves_at ls s p) ls.count
   exit-none e n = sym (first-none (leaves_at ls s p) ls.count (ap (any_below (leaves_at ls s p)) (sym e) ∙ n))
+
+-- where it comes in, if there is such a link
+pub coming-none : coming_of None ≡ none
+unfolding coming_of
+coming-none = refl
+
+pub coming-some : (x : Coming) → coming_of (Some x) ≡ some (record { node = x.node; port = x.port })
+unfolding coming_of
+coming-some x = refl
 
 -- ---- the two ends of a link
 

@@ -1,7 +1,9 @@
 -- What the class answers of a chart's bytes and the image of its tables: a message begun, a step on, and passed until it ends.
-use Rattle.std.specs.Prelude.{ℕ, ◌*◌, cond, List, ltb, length, drop, get_or, replicate}
+use Rattle.std.specs.Prelude.{ℕ, ◌*◌, cond, List, ltb, length, drop, get_or, replicate, Result, Ok, Err}
 use Rattle.lists.specs.Places.{row}
 use Rattle.lists.specs.Refusals.{or_else, unless_refused}
+use Rattle.refusal.specs.declared.Fault.{Fault}
+use Rattle.refusal.specs.Numbers.{number}
 use Rattle.address.specs.declared.Station.{Station}
 use Rattle.address.specs.declared.Address.{Address}
 use Rattle.table.specs.declared.Table.{Table}
@@ -50,6 +52,21 @@ no_message = record { at = 0; arrival = record { 0 = 0 }; met = 0; ending = 0 }
 -- nor has a way a node
 abbrev pub no_way : ℕ → ℕ → Passed
 no_way refusal place = record { refusal = refusal; place = place; ending = 0; count = 0; way = replicate longest_way 0 }
+
+-- what the result of a beginning is as an answer: beside a refusal every number of the message is 0
+abbrev pub message_begun : Result Message Fault → Sent
+message_begun (Ok m) = record { refusal = 0; place = 0; message = m }
+message_begun (Err f) = record { refusal = number f.refusal; place = f.place; message = record { at = 0; arrival = record { 0 = 0 }; met = 0; ending = 0 } }
+
+-- what the result of a step is as an answer: beside a refusal the message is as it was
+abbrev pub message_stepped : Message → Result Message Fault → Sent
+message_stepped before (Ok m) = record { refusal = 0; place = 0; message = m }
+message_stepped before (Err f) = record { refusal = number f.refusal; place = f.place; message = before }
+
+-- what the result of all steps is as an answer: beside a refusal the way has no node
+abbrev pub way_passed : Result code.Passed Fault → Passed
+way_passed (Ok p) = record { refusal = 0; place = 0; ending = p.ending; count = p.count; way = p.way }
+way_passed (Err f) = record { refusal = number f.refusal; place = f.place; ending = 0; count = 0; way = replicate longest_way 0 }
 
 -- the chart that was read
 abbrev pub chart_of : List ℕ → Chart

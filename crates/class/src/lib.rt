@@ -6,7 +6,7 @@ ghost use Rattle.std.specs.Prelude.{◌≡◌, ◌<◌};
 ghost use Rattle.chart.specs.Values.{most_nodes};
 ghost use Rattle.refusal.specs.Numbers.{AnswersAt};
 ghost use Rattle.class.specs.Class.{begun_at, ended_with, came_to, step_on};
-ghost use Rattle.class.specs.Calls.{tables_in, passing, begin_of, step_of, pass_of};
+ghost use Rattle.class.specs.Calls.{tables_in, message_begun, message_stepped, passing, way_passed, begin_of, step_of, pass_of};
 ghost use Rattle.class.specs.Private.{Going, passed_from};
 
 use address::{Address, Port, Station};
@@ -115,7 +115,8 @@ fn step_on(c: Chart, tables: &[u8], d: Address, m: Message) -> Message
 
 // A message for the destination begins at a station.
 pub fn begin(chart: &[u8], tables: &[u8], s: Station, d: Address) -> Result<Message, Fault>
-    ensures { AnswersAt result (begin_of chart.now tables.now d s).refusal (begin_of chart.now tables.now d s).place (begin_of chart.now tables.now d s).message }
+    ensures value { AnswersAt result (begin_of chart.now tables.now d s).refusal (begin_of chart.now tables.now d s).place (begin_of chart.now tables.now d s).message }
+    ensures answer { message_begun result ≡ begin_of chart.now tables.now d s }
 {
     let c = read_chart(chart)?;
     let at = chart_net::place_of(c.nodes, s);
@@ -127,7 +128,8 @@ pub fn begin(chart: &[u8], tables: &[u8], s: Station, d: Address) -> Result<Mess
 
 // A message for the destination, a step on.
 pub fn step(chart: &[u8], tables: &[u8], d: Address, m: Message) -> Result<Message, Fault>
-    ensures { AnswersAt result (step_of chart.now tables.now d m).refusal (step_of chart.now tables.now d m).place (step_of chart.now tables.now d m).message }
+    ensures value { AnswersAt result (step_of chart.now tables.now d m).refusal (step_of chart.now tables.now d m).place (step_of chart.now tables.now d m).message }
+    ensures answer { message_stepped m result ≡ step_of chart.now tables.now d m }
 {
     let c = read_chart(chart)?;
     if let Err(refusal) = class_refusal(c.nodes, tables, m.at, d, m.arrival) {
@@ -163,7 +165,8 @@ fn run(c: Chart, tables: &[u8], d: Address, at: u8) -> Passed
 
 // A message for the destination begins at a station and goes on until it ends.
 pub fn pass(chart: &[u8], tables: &[u8], s: Station, d: Address) -> Result<Passed, Fault>
-    ensures { AnswersAt result (pass_of chart.now tables.now d s).refusal (pass_of chart.now tables.now d s).place (passing (pass_of chart.now tables.now d s)) }
+    ensures value { AnswersAt result (pass_of chart.now tables.now d s).refusal (pass_of chart.now tables.now d s).place (passing (pass_of chart.now tables.now d s)) }
+    ensures answer { way_passed result ≡ pass_of chart.now tables.now d s }
 {
     let c = read_chart(chart)?;
     let at = chart_net::place_of(c.nodes, s);

@@ -1,13 +1,14 @@
 -- Laws of the definitions of specs/: the check character byte by byte, ranges, and what an accepted frame is.
 use Prim.Native.Nat.{ℕ, zero, suc, ◌+◌, ◌*◌, ◌/◌, ◌-◌, ◌<◌, ◌≤◌}
 use mathlib.Core.Path.{◌≡◌, refl, sym, ap, ◌∙◌}
-use mathlib.Core.List.{List, [], ◌∷◌}
+use mathlib.Core.List.{List, [], ◌∷◌, ◌++◌}
 use mathlib.Core.Bool.{Bool, true, false, not, cond}
 use native.Mathlib.Omega.{arith}
+use native.Mathlib.Numerals.{add-one}
 use lib.Bits.{bit_xor}
 use Rattle.std.specs.List.{fold}
 use lib.ListN.{length, get_or, take, drop, length-drop, drop_of_length-le}
-use lib.Seq.{take_all, drop-cons, get_or-drop}
+use lib.Seq.{take-suc, take_all, drop-cons, get_or-drop}
 use lib.Dec.{eqb, ltb}
 use borrow.Author.Tests.{lt-ltb, le-ltb, ltb-false, eqb-true, eqb-false, not-false}
 use Rattle.buffer.specs.Bytes.{Bytes, word_at}
@@ -26,6 +27,18 @@ use Rattle.envelope.specs.Place.{first_twin, place_beside, frame_place}
 use Rattle.envelope.specs.Private.{key_at, judged_by}
 
 -- ---- the check character
+
+xor-snoc : (x : ℕ) (l : List ℕ) (b : ℕ) → xor_from x (l ++ (b ∷ [])) ≡ bit_xor (xor_from x l) b
+unfolding xor_from
+xor-snoc x [] b = refl
+xor-snoc x (a ∷ l) b = xor-snoc (bit_xor x a) l b
+
+pub check-more : (s : List ℕ) (i : ℕ) → i < length s → check_of (take (i + 1) s) ≡ bit_xor (check_of (take i s)) (get_or s i 0)
+check-more s i h = rw (add-one, take-suc s i 0, xor-snoc)
+
+pub check-none : (s : List ℕ) → check_of (take 0 s) ≡ 0
+unfolding xor_from
+check-none s = refl
 
 -- the bytes folded from the front
 pub xor-fold : (x : ℕ) (l : List ℕ) → fold bit_xor x l ≡ xor_from x l

@@ -12,7 +12,7 @@ use Rattle.lists.specs.Refusals.{refuse, unless_refused}
 use Rattle.lists.proofs.Refusals.{or-refused, taken, refused}
 use borrow.Author.Tests.{lt-ltb, le-ltb, eq-eqb, ne_eqb}
 use Rattle.address.specs.Address.{in_range, same_address}
-use Rattle.std.specs.Prelude.{Ok, Err}
+use Rattle.std.specs.Prelude.{Result, Ok, Err}
 use Rattle.refusal.specs.declared.Fault.{Fault}
 use Rattle.refusal.specs.Numbers.{AnswersAt}
 use Rattle.refusal.proofs.Laws.{names}
@@ -22,7 +22,7 @@ use Rattle.envelope_read.specs.Read.{Envelope, Refused}
 use Rattle.envelope.specs.Frame.{destinations_offset, length_of, count_of, size_of, fields_of, destination_at, check_of}
 use Rattle.envelope.specs.Refusal.{most_destinations, lowest_priority, outside, wrong_version, whole_refusal, values_refusal_by, frame_refusal}
 use Rattle.envelope.specs.Place.{destination_place, first_twin, place_beside, frame_place}
-use Rattle.envelope_read.specs.Read.{zero_fields, read_refusal, read_place, read_fields, read_frame_of}
+use Rattle.envelope_read.specs.Read.{read_answer, zero_fields, read_refusal, read_place, read_fields, read_frame_of}
 use Rattle.envelope_read.specs.Private.{value_place}
 use Rattle.envelope.specs.Private.{Judged, key_at, judged_by}
 use Rattle.envelope.proofs.Laws.{length-le, never-out, keys-agree, twins-agree, destination-ranged, part_bytes}
@@ -163,6 +163,24 @@ read-fields f = told-fields (frame_refusal f) (frame_place f) (fields_of f)
 pub read_told : (f : List ℕ) {r : Read} → r ≡ read_frame_of f
     → (r ≡ read_frame_of f) × ((read_refusal r ≡ frame_refusal f) × ((read_place r ≡ frame_place f) × (read_fields r ≡ unless_refused (frame_refusal f) (fields_of f) zero_fields)))
 read_told f e = (e, (ap read_refusal e ∙ read-refusal f, (ap read_place e ∙ read-place f, ap read_fields e ∙ read-fields f)))
+
+-- what the code promises of the reader's result
+abbrev pub Answered : List ℕ → Result Fixed Fault → Type 0
+Answered f x = AnswersAt x (frame_refusal f) (frame_place f) (fields_of f)
+
+-- what the reader tells: its answer, and the documents' number, place and values of it
+pub record Tells (f : List ℕ) (x : Result Fixed Fault) : Type 0 where
+  pub answer : read_answer x ≡ read_frame_of f
+  pub refusal : read_refusal (read_answer x) ≡ frame_refusal f
+  pub place : read_place (read_answer x) ≡ frame_place f
+  pub values : read_fields (read_answer x) ≡ unless_refused (frame_refusal f) (fields_of f) zero_fields
+
+told : (f : List ℕ) (x : Result Fixed Fault) → read_answer x ≡ read_frame_of f → Tells f x
+told f x e = let w = read_told f e in record { answer = w.0; refusal = w.1.0; place = w.1.1.0; values = w.1.1.1 }
+
+pub tells : (f : List ℕ) (x : Result Fixed Fault) → Answered f x → Tells f x
+tells f (Ok e) h = told f (Ok e) (read_whole f h.0 h.1.1)
+tells f (Err g) h = told f (Err g) (read-broken f h.0 (names.none_zero g.refusal) (h.1 ∙ sym (place_at f h.0)))
 
 -- what an envelope says of the number and the fields, and what a refusal does
 pub record Opened (n : ℕ) (e e' : Fixed) : Type 0 where

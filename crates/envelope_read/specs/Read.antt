@@ -1,7 +1,9 @@
 -- What the reader of a frame gives (document 01; document 02, Seven).
-use Rattle.std.specs.Prelude.{ℕ, false, List}
+use Rattle.std.specs.Prelude.{ℕ, false, List, Result, Ok, Err}
 use Rattle.lists.specs.Refusals.{unless_refused}
 use Rattle.address.specs.Address.{zero_address}
+use Rattle.refusal.specs.declared.Fault.{Fault}
+use Rattle.refusal.specs.Numbers.{number}
 use Rattle.envelope.specs.declared.Fixed.{Fixed}
 use Rattle.envelope.specs.Frame.{fields_of}
 use Rattle.envelope.specs.Refusal.{frame_refusal}
@@ -11,6 +13,11 @@ use Rattle.envelope.specs.Place.{frame_place}
 pub data Read : Type 0 where
   Envelope : Fixed → Read
   Refused : ℕ → ℕ → Read
+
+-- what the reader's result is as an answer
+abbrev pub read_answer : Result Fixed Fault → Read
+read_answer (Ok e) = Envelope e
+read_answer (Err f) = Refused (number f.refusal) f.place
 
 -- the fields beside a refusal: every one 0
 abbrev pub zero_fields : Fixed

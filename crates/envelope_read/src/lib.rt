@@ -1,11 +1,14 @@
 // The envelope read (3.3, appendix A): the fixed fields of a frame or its refusal, its contents, and its destinations.
 #![tactic(auto)]
 
-ghost use Rattle.std.specs.Prelude.{◌≡◌, ◌≤◌};
+ghost use Rattle.std.specs.Prelude.{◌≡◌, ◌≤◌, false};
+ghost use Rattle.lists.specs.Refusals.{unless_refused};
+ghost use Rattle.address.specs.Address.{address_of};
 ghost use Rattle.refusal.specs.Numbers.{number, AnswersAt};
 ghost use Rattle.envelope.specs.Frame.{fields_of};
 ghost use Rattle.envelope.specs.Refusal.{frame_refusal, most_destinations};
 ghost use Rattle.envelope.specs.Place.{destination_place, frame_place};
+ghost use Rattle.envelope_read.specs.Read.{read_answer, read_refusal, read_place, read_fields, read_frame_of};
 ghost use Rattle.envelope_read.specs.Private.{value_place};
 
 use address::Address;
@@ -53,7 +56,11 @@ fn value_place(fault: Fault, count: u8) -> usize
 
 // The fixed fields of a frame; or what refuses it, and the place of the first byte of the first field at fault.
 pub fn read_frame(frame: &[u8]) -> Result<Fixed, Fault>
-    ensures { AnswersAt result (frame_refusal frame.now) (frame_place frame.now) (fields_of frame.now) }
+    ensures value { AnswersAt result (frame_refusal frame.now) (frame_place frame.now) (fields_of frame.now) }
+    ensures answer { read_answer result ≡ read_frame_of frame.now }
+    ensures refusal { read_refusal (read_answer result) ≡ frame_refusal frame.now }
+    ensures place { read_place (read_answer result) ≡ frame_place frame.now }
+    ensures values { read_fields (read_answer result) ≡ unless_refused (frame_refusal frame.now) (fields_of frame.now) (record { source = address_of 0 0 0; count = 0; length = 0; priority = 0; version = 0; ack = false; seq = record { 0 = 0 }; kind = 0 }) }
 {
     whole(frame)?;
     let e = fields_of(frame);

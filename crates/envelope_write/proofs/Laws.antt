@@ -1,22 +1,23 @@
 -- Laws of the writer: the stores that make a frame, its length, and what a refusal says.
 use Prim.Native.Nat.{ℕ, ◌+◌, ◌*◌, ◌≤◌}
-use mathlib.Core.Path.{◌≡◌, refl, sym}
+use mathlib.Core.Path.{◌≡◌, refl, sym, ap, ◌∙◌}
 use mathlib.Core.List.{List, [], ◌∷◌, ◌++◌}
 use native.Mathlib.Omega.{arith}
 use lib.ListN.{length, take, drop, set, length-append}
 use lib.Seq.{sets}
 use Rattle.lists.specs.Places.{joined}
+use Rattle.lists.specs.Refusals.{unless_refused}
 use Rattle.lists.proofs.Places.{Agree, length-joined, joined-agree}
 use Rattle.lists.proofs.Stores.{sets-append, sets-front, taken-front}
 use Rattle.lists.proofs.Refusals.{taken, refused}
-use Rattle.buffer.proofs.Writing.{wrote-size}
+use Rattle.buffer.proofs.Writing.{wrote-refusal, wrote_count, wrote-size, wrote-taken, wrote-refused}
 use Rattle.address.specs.declared.Address.{Address}
 use Rattle.address_bytes.specs.Packed.{packed_bytes}
 use Rattle.std.specs.Prelude.{Ok}
 use Rattle.refusal.specs.Numbers.{Answers}
 use Rattle.envelope.specs.declared.Fixed.{Fixed}
 use Rattle.envelope.specs.Frame.{check_of}
-use Rattle.buffer.specs.Writing.{Wrote}
+use Rattle.buffer.specs.Writing.{Written, Wrote, Refused, written_refusal, written_count}
 use Rattle.envelope_write.specs.Refusal.{size_for, frame_write_refusal}
 use Rattle.envelope_write.proofs.RefuseLaws.{ready, write-agree}
 use Rattle.envelope_write.specs.Promises.{FramesShort}
@@ -100,6 +101,10 @@ written-short e d n room k h = let r = ready e d n room h.0 in omega (arith, h.1
 
 -- ---- all that the writer promises, from its refusal
 
+pub record Told (e : Fixed) (d : ℕ → Address) (l out : List ℕ) (r : Written) (after : List ℕ) : Type 0 where
+  pub answer : r ≡ write_frame_of e d (length l) (length out)
+  pub buffer : after ≡ after_of e d l out
+
 module _ (e : Fixed) (d : ℕ → Address) (l out : List ℕ) where
   pub after-refused : (frame_write_refusal e d (length l) (length out) ≡ 0 → ⊥) → out ≡ after_of e d l out
   unfolding after_of
@@ -108,3 +113,17 @@ module _ (e : Fixed) (d : ℕ → Address) (l out : List ℕ) where
   pub after-written : frame_write_refusal e d (length l) (length out) ≡ 0 → frame_bytes e d l ++ drop (length (frame_bytes e d l)) out ≡ after_of e d l out
   unfolding after_of
   after-written z = sym (taken _ _ z)
+
+  pub write-told : {r : Written} → r ≡ write_frame_of e d (length l) (length out)
+      → (written_refusal r ≡ frame_write_refusal e d (length l) (length out)) × (written_count r ≡ unless_refused (frame_write_refusal e d (length l) (length out)) (size_for e (length l)) 0)
+  unfolding write_frame_of
+  write-told h = (ap written_refusal h ∙ wrote-refusal _ _, ap written_count h ∙ wrote_count _ _)
+
+  module _ {k : ℕ} (p : k ≡ frame_write_refusal e d (length l) (length out)) where
+    pub write-refused : (k ≡ 0 → ⊥) → Told e d l out (Refused k) out
+    unfolding write_frame_of
+    write-refused h = record { answer = rw (← p) (wrote-refused k _ h); buffer = after-refused (λ z. h (p ∙ z)) }
+
+    pub write-wrote : k ≡ 0 → Told e d l out (Wrote (size_for e (length l))) (frame_bytes e d l ++ drop (length (frame_bytes e d l)) out)
+    unfolding write_frame_of
+    write-wrote z = record { answer = rw (← p) (wrote-taken _ z); buffer = after-written (sym p ∙ z) }

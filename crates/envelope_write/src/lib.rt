@@ -4,9 +4,11 @@
 ghost use Rattle.std.specs.Prelude.{◌≡◌, length};
 ghost use Rattle.lists.specs.Places.{element_at};
 ghost use Rattle.address.specs.Address.{zero_address};
+ghost use Rattle.lists.specs.Refusals.{unless_refused};
 ghost use Rattle.refusal.specs.Numbers.{Answers};
+ghost use Rattle.buffer.specs.Writing.{written, written_refusal, written_count};
 ghost use Rattle.envelope_write.specs.Refusal.{size_for, frame_write_refusal};
-ghost use Rattle.envelope_write.specs.Write.{after_of};
+ghost use Rattle.envelope_write.specs.Write.{write_frame_of, after_of};
 
 use address::Address;
 use envelope::Fixed;
@@ -26,6 +28,9 @@ pub fn write_frame(
 ) -> Result<usize, Refusal>
     ensures value { Answers result (frame_write_refusal e (element_at zero_address addresses) (length contents.now) (length out.old)) (size_for e (length contents.now)) }
     ensures buffer { out.new ≡ after_of e (element_at zero_address addresses) contents.now out.old }
+    ensures answer { written result ≡ write_frame_of e (element_at zero_address addresses) (length contents.now) (length out.old) }
+    ensures refusal { written_refusal (written result) ≡ frame_write_refusal e (element_at zero_address addresses) (length contents.now) (length out.old) }
+    ensures count { written_count (written result) ≡ unless_refused (frame_write_refusal e (element_at zero_address addresses) (length contents.now) (length out.old)) (size_for e (length contents.now)) 0 }
 {
     frame_write_refusal(e, addresses, contents.len(), out.len())?;
     Ok(put_frame(e, addresses, contents, out))

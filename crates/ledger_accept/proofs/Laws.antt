@@ -10,7 +10,7 @@ use Rattle.buffer.specs.Bytes.{Bytes}
 use Rattle.lists.specs.Places.{any_below}
 use Rattle.lists.specs.Refusals.{unless_refused}
 use Rattle.lists.proofs.Bools.{or-no-left, and_both}
-use Rattle.lists.proofs.Refusals.{pass, or-pass, or-refused, taken}
+use Rattle.lists.proofs.Refusals.{pass, or-pass, or-refused, taken, refused}
 use Rattle.address.specs.declared.Port.{Port}
 use Rattle.address.specs.declared.Address.{Address}
 use Rattle.address.specs.Address.{in_range}
@@ -23,8 +23,11 @@ use Rattle.table.specs.declared.Table.{Table}
 use Rattle.table.specs.Table.{table_in_range, call_in_range}
 use Rattle.ledger.specs.declared.Ledger.{Ledger}
 use Rattle.ledger.specs.Rules.{obeys}
-use Rattle.ledger_accept.specs.declared.Added.{Added}
-use Rattle.ledger_accept.specs.Accept.{is_open_from_at, legs_refusal, call_refusal, accept_refusal, with_legs, accept_of}
+use Rattle.std.specs.Prelude.{Result, Ok, Err}
+use Rattle.refusal.specs.declared.Fault.{Fault}
+use Rattle.refusal.specs.Numbers.{AnswersAt}
+use Rattle.ledger_accept.specs.declared.Added as code
+use Rattle.ledger_accept.specs.Accept.{Added, accept_answer, is_open_from_at, legs_refusal, call_refusal, accept_refusal, with_legs, accept_of}
 
 -- ---- 61 to 63
 
@@ -112,7 +115,27 @@ module _ (l : Ledger) (e : Fixed) (stray : Bool) (arrival : Port) (t : Table) (t
 
 -- ---- the whole call
 
+-- what accept comes to says its result's number, place, ledger and count
+pub accept-answers : (l : Ledger) (x : Result code.Added Fault) (a : Added) → accept_answer l x ≡ a → AnswersAt x a.refusal a.place (record { ledger = a.ledger; added = a.added })
+accept-answers l (Ok m) a e = (
+  sym (ap (λ (y : Added). y.refusal) e),
+  (sym (ap (λ (y : Added). y.place) e), λ i. record { ledger = (ap (λ (y : Added). y.ledger) e) i; added = (ap (λ (y : Added). y.added) e) i }),
+)
+accept-answers l (Err f) a e = (ap (λ (y : Added). y.refusal) e, ap (λ (y : Added). y.place) e)
+
 module _ (l : Ledger) (f : List ℕ) (arrival : Port) (t : Table) (ticks : ℕ) where
+  -- beside a refusal no leg is added
+  pub accept-refused : {k place : ℕ} → k ≡ accept_refusal l f arrival t ticks → (k ≡ 0 → ⊥) → place ≡ frame_place f
+      → ◌≡◌ {A = Added} (record { refusal = k; added = 0; place = place; ledger = l }) (accept_of l f arrival t ticks)
+  unfolding accept_of
+  accept-refused {k} p h at = λ i. record { refusal = p i; added = none i; place = at i; ledger = same i }
+    where
+      none : 0 ≡ unless_refused (accept_refusal l f arrival t ticks) (cond (fields_of f).ack (fields_of f).count 0) 0
+      none = rw (← p) (sym (refused _ 0 k h))
+
+      same : l ≡ unless_refused (accept_refusal l f arrival t ticks) (cond (fields_of f).ack (with_legs l (fields_of f) (destination_at (drop destinations_offset f)) arrival t ticks) l) l
+      same = rw (← p) (sym (refused _ l k h))
+
   -- the number of a refused frame, and of an accepted one: its destinations are in range
   pub read-refusal : (frame_refusal f ≡ 0 → ⊥) → frame_refusal f ≡ accept_refusal l f arrival t ticks
   unfolding accept_refusal
@@ -152,18 +175,14 @@ module _ (l : Ledger) (f : List ℕ) (arrival : Port) (t : Table) (ticks : ℕ) 
     ledger-after : {b : Bool} → e.ack ≡ b → unless_refused (accept_refusal l f arrival t ticks) (cond (fields_of f).ack whole l) l ≡ cond b whole l
     ledger-after a = taken _ _ z ∙ ap (λ (x : Bool). cond x whole l) (asked a)
 
-    pub accept-quiet : e.ack ≡ false → ((accept_of l f arrival t ticks).refusal ≡ 0)
-        × (((accept_of l f arrival t ticks).place ≡ 0)
-        × (◌≡◌ {A = Added} (record { ledger = l; added = 0 }) (record { ledger = (accept_of l f arrival t ticks).ledger; added = (accept_of l f arrival t ticks).added })))
+    pub accept-quiet : e.ack ≡ false → ◌≡◌ {A = Added} (record { refusal = 0; added = 0; place = 0; ledger = l }) (accept_of l f arrival t ticks)
     unfolding accept_of whole
-    accept-quiet a = (z, (sym nowhere, λ i. record { ledger = sym (ledger-after a) i; added = sym (refusal-added a) i }))
+    accept-quiet a = λ i. record { refusal = sym z i; added = sym (refusal-added a) i; place = nowhere i; ledger = sym (ledger-after a) i }
 
     pub accept-added : e.ack ≡ true → {m : Ledger} → m ≡ with_legs l e (destination_at (take (length f - 5) (drop 5 f))) arrival t ticks
-        → ((accept_of l f arrival t ticks).refusal ≡ 0)
-        × (((accept_of l f arrival t ticks).place ≡ 0)
-        × (◌≡◌ {A = Added} (record { ledger = m; added = e.count }) (record { ledger = (accept_of l f arrival t ticks).ledger; added = (accept_of l f arrival t ticks).added })))
+        → ◌≡◌ {A = Added} (record { refusal = 0; added = e.count; place = 0; ledger = m }) (accept_of l f arrival t ticks)
     unfolding accept_of whole
     accept-added a {m} h =
         let c : e.count ≡ (fields_of f).count = ap (λ (x : Fixed). x.count) p in
         let w : m ≡ whole = h ∙ rw (p, part-from 5 f) in
-        (z, (sym nowhere, λ i. record { ledger = (w ∙ sym (ledger-after a)) i; added = (c ∙ sym (refusal-added a)) i }))
+        λ i. record { refusal = sym z i; added = (c ∙ sym (refusal-added a)) i; place = nowhere i; ledger = (w ∙ sym (ledger-after a)) i }

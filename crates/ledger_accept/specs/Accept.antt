@@ -1,8 +1,10 @@
 -- Accept (document 01, "The ledger of legs"; document 02, Seven): a frame, an arrival port, a table and a number of ticks.
-use Rattle.std.specs.Prelude.{ℕ, ◌+◌, ◌-◌, Bool, not, ◌&&◌, ◌||◌, cond, List, eqb, ltb, drop}
+use Rattle.std.specs.Prelude.{ℕ, ◌+◌, ◌-◌, Bool, not, ◌&&◌, ◌||◌, cond, List, eqb, ltb, drop, Result, Ok, Err}
 use Rattle.std.proofs.lemmas.List.Edits.{sets}
 use Rattle.lists.specs.Places.{any_below, firsts}
 use Rattle.lists.specs.Refusals.{refuse, or_else, unless_refused}
+use Rattle.refusal.specs.declared.Fault.{Fault}
+use Rattle.refusal.specs.Numbers.{number}
 use Rattle.address.specs.declared.Port.{Port}
 use Rattle.address.specs.declared.Seq.{Seq}
 use Rattle.address.specs.declared.Address.{Address}
@@ -18,6 +20,7 @@ use Rattle.ledger.specs.declared.Standing.TheVariants.{Open, Undeliverable}
 use Rattle.ledger.specs.declared.Leg.{Leg}
 use Rattle.ledger.specs.declared.Ledger.{Ledger}
 use Rattle.ledger.specs.Rules.{most_legs, leg_at, is_open, obeys}
+use Rattle.ledger_accept.specs.declared.Added as code
 
 -- what accept comes to: the number, how many legs were added, the place of a refused frame, and the ledger after the call
 pub record Added : Type 0 where
@@ -25,6 +28,11 @@ pub record Added : Type 0 where
   pub refusal : ℕ
   pub added : ℕ
   pub place : ℕ
+
+-- what the result of accept on the ledger l comes to: beside a refusal no leg is added, and the ledger is as it was
+abbrev pub accept_answer : Ledger → Result code.Added Fault → Added
+accept_answer l (Ok a) = record { ledger = a.ledger; refusal = 0; added = a.added; place = 0 }
+accept_answer l (Err f) = record { ledger = l; refusal = number f.refusal; added = 0; place = f.place }
 
 -- an open leg with this source and sequence number, to any destination (3.3.4)
 unfoldable pub is_open_from : Address → Seq → Leg → Bool

@@ -3,7 +3,7 @@
 
 ghost use Rattle.std.specs.Prelude.{◌≡◌};
 ghost use Rattle.refusal.specs.Numbers.{AnswersAt};
-ghost use Rattle.ledger_accept.specs.Accept.{accept_of};
+ghost use Rattle.ledger_accept.specs.Accept.{accept_answer, accept_of};
 
 use adding::with_legs;
 use address::Port;
@@ -31,9 +31,16 @@ pub fn accept(
     table: Table,
     ticks: u16,
 ) -> Result<Added, Fault>
-    ensures { AnswersAt result (accept_of l frame.now arrival table ticks).refusal (accept_of l frame.now arrival table ticks).place (record { ledger = (accept_of l frame.now arrival table ticks).ledger; added = (accept_of l frame.now arrival table ticks).added }) }
+    ensures value { AnswersAt result (accept_of l frame.now arrival table ticks).refusal (accept_of l frame.now arrival table ticks).place (record { ledger = (accept_of l frame.now arrival table ticks).ledger; added = (accept_of l frame.now arrival table ticks).added }) }
+    ensures answer { accept_answer l result ≡ accept_of l frame.now arrival table ticks }
 {
-    let e = envelope_read::read_frame(frame)?;
+    let answer = envelope_read::read_frame(frame);
+    let Ok(e) = answer else {
+        return answer.and(Ok(Added {
+            ledger: l,
+            added: 0,
+        }));
+    };
     if let Err(refusal) = call_refusal(l, e, arrival, table, ticks) {
         return Err(refusal.at(0));
     }

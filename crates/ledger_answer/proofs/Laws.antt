@@ -17,6 +17,7 @@ use Rattle.ledger.specs.declared.Standing.TheVariants.{Waiting}
 use Rattle.ledger.specs.declared.Leg.{Leg}
 use Rattle.ledger.specs.declared.Ledger.{Ledger}
 use Rattle.ledger.specs.Rules.{with_standing, leg_at, obeys}
+use Rattle.ledger.specs.Outcome.{Outcome}
 use Rattle.ledger.proofs.Laws.{obedient}
 use Rattle.ledger.proofs.Alike.{only_one}
 use Rattle.ledger_answer.specs.declared.Reply.{Reply}
@@ -79,15 +80,15 @@ module _ (l : Ledger) (by to : Address) (seq : Seq) {r : Option ℕ} (e : r ≡ 
       go false b = refl
 
 module _ (l : Ledger) (by to : Address) (seq : Seq) (reply : Reply) where
-  pub answer-60 : obeys l ≡ false → 60 ≡ (answer_of l by to seq reply).refusal
-  unfolding answer_of answer_refusal
+  pub answer-60 : obeys l ≡ false → ◌≡◌ {A = Outcome} (record { refusal = 60; ledger = l }) (answer_of l by to seq reply)
+  unfolding answer_of answer_refusal unless_refused
   answer-60 a = rw a
 
-  pub answer-64 : obeys l ≡ true → any_below (answered_at l by to seq) l.count ≡ false → 64 ≡ (answer_of l by to seq reply).refusal
-  unfolding answer_of answer_refusal
+  pub answer-64 : obeys l ≡ true → any_below (answered_at l by to seq) l.count ≡ false → ◌≡◌ {A = Outcome} (record { refusal = 64; ledger = l }) (answer_of l by to seq reply)
+  unfolding answer_of answer_refusal unless_refused
   answer-64 a n = rw (a, n)
 
   pub answer-0 : obeys l ≡ true → {k : ℕ} {h : Leg} → Found l by to seq k → h ≡ answered reply (leg_at l k)
-      → ((answer_of l by to seq reply).refusal ≡ 0) × (record { count = l.count; legs = set l.legs k h } ≡ (answer_of l by to seq reply).ledger)
+      → ◌≡◌ {A = Outcome} (record { refusal = 0; ledger = record { count = l.count; legs = set l.legs k h } }) (answer_of l by to seq reply)
   unfolding answer_of answer_refusal unless_refused with_leg
-  answer-0 a n q = rw (a, n.any, q, n.place) (refl, refl)
+  answer-0 a n q = rw (a, n.any, q, n.place)

@@ -6,6 +6,7 @@ ghost use Rattle.lists.specs.Places.{any_below};
 ghost use Rattle.refusal.specs.Numbers.{Answers};
 ghost use Rattle.ledger_answer.specs.Answer.{standing_for, settled, waits, answered, answered_at, answered_place, answer_of};
 ghost use Rattle.ledger.specs.Rules.{obeys};
+ghost use Rattle.ledger.specs.Outcome.{outcome};
 
 use address::{Address, Seq};
 use ledger::{Ledger, Leg, Standing, is_open_leg, obeys, with_standing};
@@ -81,7 +82,8 @@ pub fn answer(
     seq: Seq,
     reply: Reply,
 ) -> Result<Ledger, Refusal>
-    ensures { Answers result (answer_of l by to seq reply).refusal (answer_of l by to seq reply).ledger }
+    ensures value { Answers result (answer_of l by to seq reply).refusal (answer_of l by to seq reply).ledger }
+    ensures answer { outcome l result ≡ answer_of l by to seq reply }
 {
     if !obeys(l) {
         return Err(Refusal::BadLedger);

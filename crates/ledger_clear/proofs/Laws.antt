@@ -13,6 +13,7 @@ use borrow.Author.Tests.{lt-ltb, le-ltb}
 use Rattle.lists.specs.Refusals.{unless_refused}
 use Rattle.ledger.specs.declared.Ledger.{Ledger}
 use Rattle.ledger.specs.Rules.{leg_at, is_open, obeys}
+use Rattle.ledger.specs.Outcome.{Outcome}
 use Rattle.ledger_clear.specs.Clear.{close_up, settled_at, clear_refusal, clear_of}
 
 -- ---- a list closed up over a place
@@ -45,19 +46,18 @@ module _ {A : Type 0} where
       ∙ ap (λ (x : List A). x ++ a ∷ drop n l) left
 
 module _ (l : Ledger) (place : ℕ) where
-  pub clear-60 : obeys l ≡ false → 60 ≡ (clear_of l place).refusal
-  unfolding clear_of clear_refusal
+  pub clear-60 : obeys l ≡ false → ◌≡◌ {A = Outcome} (record { refusal = 60; ledger = l }) (clear_of l place)
+  unfolding clear_of clear_refusal unless_refused
   clear-60 a = rw a
 
-  pub clear-past : obeys l ≡ true → l.count ≤ place → 65 ≡ (clear_of l place).refusal
-  unfolding clear_of clear_refusal settled_at
+  pub clear-past : obeys l ≡ true → l.count ≤ place → ◌≡◌ {A = Outcome} (record { refusal = 65; ledger = l }) (clear_of l place)
+  unfolding clear_of clear_refusal settled_at unless_refused
   clear-past a b = rw (a, le-ltb _ _ b)
 
-  pub clear-open : obeys l ≡ true → place < l.count → is_open (leg_at l place).standing ≡ true → 65 ≡ (clear_of l place).refusal
-  unfolding clear_of clear_refusal settled_at
+  pub clear-open : obeys l ≡ true → place < l.count → is_open (leg_at l place).standing ≡ true → ◌≡◌ {A = Outcome} (record { refusal = 65; ledger = l }) (clear_of l place)
+  unfolding clear_of clear_refusal settled_at unless_refused
   clear-open a b c = rw (a, lt-ltb _ _ b, c)
 
-  pub clear-0 : obeys l ≡ true → place < l.count → is_open (leg_at l place).standing ≡ false → {m : Ledger} → m ≡ close_up l place
-      → ((clear_of l place).refusal ≡ 0) × (m ≡ (clear_of l place).ledger)
+  pub clear-0 : obeys l ≡ true → place < l.count → is_open (leg_at l place).standing ≡ false → {m : Ledger} → m ≡ close_up l place → ◌≡◌ {A = Outcome} (record { refusal = 0; ledger = m }) (clear_of l place)
   unfolding clear_of clear_refusal settled_at unless_refused
-  clear-0 a b c e = rw (a, lt-ltb _ _ b, c, e) (refl, refl)
+  clear-0 a b c e = rw (a, lt-ltb _ _ b, c, e)

@@ -27,12 +27,11 @@ pub fn pz_accept(
     match ledger_accept::accept(l, frame, Port(arrival), t, ticks) {
         Ok(after) => {
             *added = after.added;
-            ledger_image::put_back(ledger, after.ledger, after.ledger.count);
-            0
+            ledger_image::put_back(ledger, Ok(()), after.ledger, after.ledger.count)
         }
         Err(fault) => {
             *place = fault.place as u16;
-            fault.refusal.number()
+            ledger_image::put_back(ledger, Err(fault.refusal), l, l.count)
         }
     }
 }
@@ -76,11 +75,8 @@ pub fn pz_answer(
     };
     let reply = reply_of(nak, set, code);
     match ledger_answer::answer(l, by, to, Seq(seq), reply) {
-        Ok(m) => {
-            ledger_image::put_back(ledger, m, l.count);
-            0
-        }
-        Err(refusal) => refusal.number(),
+        Ok(m) => ledger_image::put_back(ledger, Ok(()), m, l.count),
+        Err(refusal) => ledger_image::put_back(ledger, Err(refusal), l, l.count),
     }
 }
 
@@ -93,10 +89,9 @@ pub fn pz_tick(ledger: &mut [u8], ended: &mut u8) -> u8
     match ledger_tick::tick(l) {
         Ok(after) => {
             *ended = after.ended;
-            ledger_image::put_back(ledger, after.ledger, l.count);
-            0
+            ledger_image::put_back(ledger, Ok(()), after.ledger, l.count)
         }
-        Err(refusal) => refusal.number(),
+        Err(refusal) => ledger_image::put_back(ledger, Err(refusal), l, l.count),
     }
 }
 
@@ -106,10 +101,7 @@ pub fn pz_clear(ledger: &mut [u8], place: usize) -> u8
 {
     let l = ledger_image::ledger_of(ledger);
     match ledger_clear::clear(l, place) {
-        Ok(m) => {
-            ledger_image::put_back(ledger, m, l.count);
-            0
-        }
-        Err(refusal) => refusal.number(),
+        Ok(m) => ledger_image::put_back(ledger, Ok(()), m, l.count),
+        Err(refusal) => ledger_image::put_back(ledger, Err(refusal), l, l.count),
     }
 }

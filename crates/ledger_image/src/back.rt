@@ -1,11 +1,13 @@
 // A ledger put back into its image after a call.
 ghost use Rattle.std.specs.Prelude.{◌≡◌, ◌≤◌};
+ghost use Rattle.refusal.specs.Numbers.{number_in};
 ghost use Rattle.ledger_image.specs.Ledger.{with_ledger, ledger_after};
 ghost use Rattle.ledger.specs.Rules.{most_legs};
 
 use crate::legs::leg_bytes;
 use crate::{LEG_SIZE, LEGS_START};
 use ledger::{Ledger, MOST_LEGS};
+use refusal::Refusal;
 
 // The count and the first n legs are written.
 fn put_legs(b: &mut [u8], l: Ledger, n: u8)
@@ -18,9 +20,13 @@ fn put_legs(b: &mut [u8], l: Ledger, n: u8)
     }
 }
 
-// After a call that gave this ledger: its first n legs are written, at most 128. A refused call has nothing to put back.
-pub fn put_back(b: &mut [u8], l: Ledger, n: u8)
-    ensures { b.new ≡ ledger_after b.old 0 l n }
+// After a call that gave this answer and this ledger: a refusal leaves the image, else the first n legs are written, at most 128. Gives the number.
+pub fn put_back(b: &mut [u8], answer: Result<(), Refusal>, l: Ledger, n: u8) -> u8
+    ensures { (result ≡ number_in answer) × (b.new ≡ ledger_after b.old (number_in answer) l n) }
 {
+    if let Err(refusal) = answer {
+        return refusal.number();
+    }
     put_legs(b, l, n.min(MOST_LEGS));
+    0
 }

@@ -1,6 +1,6 @@
 -- Laws of the call's definitions, over plain values: one for each way that the code returns.
 use Prim.Native.Nat.{◌<◌, ◌≤◌, ◌-◌}
-use mathlib.Core.Path.{◌≡◌, refl}
+use mathlib.Core.Path.{◌≡◌, sym, ap}
 use mathlib.Core.Bool.{true, false}
 use lib.Dec.{leb}
 use lib.ListN.{take}
@@ -11,7 +11,11 @@ use Rattle.ledger.specs.declared.Standing.TheVariants.{TimedOut}
 use Rattle.ledger.specs.declared.Leg.{Leg}
 use Rattle.ledger.specs.declared.Ledger.{Ledger}
 use Rattle.ledger.specs.Rules.{with_standing, is_open, obeys}
-use Rattle.ledger_tick.specs.Tick.{times_out, ticked_leg, ticked_ledger, tick_refusal, tick_of}
+use Rattle.std.specs.Prelude.{Result, Ok, Err}
+use Rattle.refusal.specs.declared.Refusal.{Refusal}
+use Rattle.refusal.specs.Numbers.{Answers}
+use Rattle.ledger_tick.specs.declared.Ticked as code
+use Rattle.ledger_tick.specs.Tick.{times_out, ticked_leg, ticked_ledger, Ticked, tick_answer, tick_refusal, tick_of}
 
 module _ (g : Leg) where
   pub stays : is_open g.standing ≡ false → false ≡ times_out g
@@ -35,10 +39,16 @@ module _ (g : Leg) where
   ticked-less a b = rw (a, lt-leb _ _ b)
 
 module _ (l : Ledger) where
-  pub tick-60 : obeys l ≡ false → 60 ≡ (tick_of l).refusal
-  unfolding tick_of tick_refusal
+  pub tick-60 : obeys l ≡ false → ◌≡◌ {A = Ticked} (record { refusal = 60; ended = 0; ledger = l }) (tick_of l)
+  unfolding tick_of tick_refusal unless_refused
   tick-60 a = rw a
 
-  pub tick-0 : obeys l ≡ true → ((tick_of l).refusal ≡ 0) × ((tick_of l).ended ≡ how_many times_out (take l.count l.legs)) × ((tick_of l).ledger ≡ ticked_ledger l)
+  pub tick-0 : obeys l ≡ true → ◌≡◌ {A = Ticked} (record { refusal = 0; ended = how_many times_out (take l.count l.legs); ledger = ticked_ledger l }) (tick_of l)
   unfolding tick_of tick_refusal unless_refused
-  tick-0 a = rw a (refl, refl, refl)
+  tick-0 a = rw a
+
+  -- what a tick comes to says its result's number, ledger and count
+  pub tick-answers : (x : Result code.Ticked Refusal) (t : Ticked) → tick_answer l x ≡ t → Answers x t.refusal (record { ledger = t.ledger; ended = t.ended })
+  tick-answers (Ok m) t e =
+      (sym (ap (λ (y : Ticked). y.refusal) e), λ i. record { ledger = (ap (λ (y : Ticked). y.ledger) e) i; ended = (ap (λ (y : Ticked). y.ended) e) i })
+  tick-answers (Err r) t e = ap (λ (y : Ticked). y.refusal) e

@@ -1,11 +1,14 @@
 -- Tick (document 01, "The ledger of legs").
-use Rattle.std.specs.Prelude.{ℕ, ◌-◌, Bool, cond, not, ◌&&◌, map, ◌++◌, leb, take, drop}
+use Rattle.std.specs.Prelude.{ℕ, ◌-◌, Bool, cond, not, ◌&&◌, map, ◌++◌, leb, take, drop, Result, Ok, Err}
 use Rattle.lists.specs.Lists.{how_many}
 use Rattle.lists.specs.Refusals.{refuse, unless_refused}
+use Rattle.refusal.specs.declared.Refusal.{Refusal}
+use Rattle.refusal.specs.Numbers.{number}
 use Rattle.ledger.specs.declared.Standing.TheVariants.{TimedOut}
 use Rattle.ledger.specs.declared.Leg.{Leg}
 use Rattle.ledger.specs.declared.Ledger.{Ledger}
 use Rattle.ledger.specs.Rules.{with_standing, is_open, obeys}
+use Rattle.ledger_tick.specs.declared.Ticked as code
 
 -- an open leg whose count comes to 0 in this tick
 unfoldable pub times_out : Leg → Bool
@@ -27,6 +30,11 @@ pub record Ticked : Type 0 where
   pub ledger : Ledger
   pub refusal : ℕ
   pub ended : ℕ
+
+-- what the result of a tick of the ledger l comes to: beside a refusal the ledger is as it was, and none timed out
+abbrev pub tick_answer : Ledger → Result code.Ticked Refusal → Ticked
+tick_answer l (Ok t) = record { ledger = t.ledger; refusal = 0; ended = t.ended }
+tick_answer l (Err r) = record { ledger = l; refusal = number r; ended = 0 }
 
 -- 60 the rules
 unfoldable pub tick_refusal : Ledger → ℕ

@@ -3,7 +3,7 @@
 
 ghost use Rattle.std.specs.Prelude.{◌≡◌, ◌≤◌};
 ghost use Rattle.refusal.specs.Numbers.{Answers};
-ghost use Rattle.ledger_tick.specs.Tick.{times_out, ticked_leg, tick_of};
+ghost use Rattle.ledger_tick.specs.Tick.{times_out, ticked_leg, tick_answer, tick_of};
 ghost use Rattle.ledger_tick.specs.Private.{ticked_first};
 ghost use Rattle.ledger.specs.Rules.{most_legs};
 
@@ -71,7 +71,8 @@ fn tick_first(legs: [Leg; 128], n: usize) -> TickedLegs
 
 // One tick for every leg: 60 the rules.
 pub fn tick(l: Ledger) -> Result<Ticked, Refusal>
-    ensures { Answers result (tick_of l).refusal (record { ledger = (tick_of l).ledger; ended = (tick_of l).ended }) }
+    ensures value { Answers result (tick_of l).refusal (record { ledger = (tick_of l).ledger; ended = (tick_of l).ended }) }
+    ensures answer { tick_answer l result ≡ tick_of l }
 {
     if !obeys(l) {
         return Err(Refusal::BadLedger);

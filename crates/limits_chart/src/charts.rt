@@ -1,9 +1,10 @@
 // Charts, read and written.
 ghost use Rattle.std.specs.Prelude.{◌≤◌};
 
+use crate::answers::answered;
 use address::{Address, Node, Port, Station};
 use chart::{BOTH_WAYS, Chart, ChartNode, Link, Links, Nodes, PLAIN};
-use limits_script::{answered, byte, bytes, taken};
+use limits_script::{byte, bytes, taken};
 use refusal::{Fault, Refusal};
 use std::io;
 

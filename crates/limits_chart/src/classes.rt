@@ -1,8 +1,9 @@
 // Messages passed over a chart of C, by tables that send everything out by one port.
+use crate::answers::answered;
 use crate::charts::{Shape, put_built, station};
 use address::{Address, Node, Port};
 use class::{Message, Passed};
-use limits_script::{answered, byte, taken};
+use limits_script::{byte, taken};
 use refusal::Fault;
 use std::io;
 use table::{Entry, Table, Target};

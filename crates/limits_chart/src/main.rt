@@ -3,6 +3,7 @@
 // what the documents say; stdin explains the letters.
 #![tactic(auto)]
 
+mod answers;
 mod charts;
 mod classes;
 mod mends;
@@ -11,7 +12,7 @@ mod tables;
 mod traces;
 
 use input_read::read_full;
-use limits_script::answer_all;
+use limits_script::{line_end, numbers};
 use std::io::Result;
 
 // Answers a line of numbers where its letter is a call's.
@@ -35,9 +36,23 @@ fn answer(rt: &impl Print, letter: u8, v: &[u16; 64]) -> Result<()> {
     }
 }
 
+// Each line of a text in turn: printed, and answered by its letter and its numbers.
+fn answer_all(rt: &impl Print, text: &[u8]) -> Result<()> {
+    let mut at = 0;
+    while at < text.len() {
+        let end = line_end(text, at);
+        let line = &text[at..end];
+        rt.write_all(line)?;
+        answer(rt, line.first().copied().unwrap_or(0), &numbers(line))?;
+        println!(rt)?;
+        at = end + 1;
+    }
+    Ok(())
+}
+
 // What stands past the first 65,536 bytes is not read.
 fn main(rt: HostRuntime) -> Result<()> {
     let mut input = [0u8; 65536];
     let n = read_full(&mut rt.stdin(), &mut input)?;
-    answer_all(&rt, &input[..n], |letter, v| answer(&rt, letter, v))
+    answer_all(&rt, &input[..n])
 }

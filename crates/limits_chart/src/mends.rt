@@ -1,7 +1,8 @@
 // Damaged charts, mended.
+use crate::answers::answered;
 use crate::charts::{Shape, put_built};
 use chart_mend::MendedSizes;
-use limits_script::{answered, bytes, taken};
+use limits_script::{bytes, taken};
 use refusal::Refusal;
 use std::io;
 

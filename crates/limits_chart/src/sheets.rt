@@ -1,5 +1,6 @@
 // The printed sheet: of bytes that are no chart, and of a chart with a thousand routes.
-use limits_script::{answered, taken};
+use crate::answers::answered;
+use limits_script::taken;
 use refusal::Refusal;
 use std::io;
 

@@ -1,6 +1,6 @@
 // The routing table of a node, written from a chart.
+use crate::answers::answered;
 use crate::charts::{Shape, built, station};
-use limits_script::answered;
 use refusal::Refusal;
 use std::io;
 use table::{MOST_ENTRIES, Table};

@@ -1,7 +1,8 @@
 // The routes of a chart: a ring of nodes.
+use crate::answers::answered;
 use crate::charts::{Shape, built_chart};
 use chart::Chart;
-use limits_script::{answered, byte, taken};
+use limits_script::{byte, taken};
 use refusal::Refusal;
 use std::io;
 

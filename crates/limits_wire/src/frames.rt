@@ -1,9 +1,9 @@
 // Frames, written and read.
-use crate::answers::value;
+use crate::answers::{answered, value};
 use address::{Address, Node, Port, Seq};
 use envelope::Fixed;
 use envelope_read::Destinations;
-use limits_script::{answered, byte, bytes, taken};
+use limits_script::{byte, bytes, taken};
 use refusal::Refusal;
 use std::io;
 

@@ -1,5 +1,5 @@
 // The ledger of legs. Each call's numbers begin with a ledger: legs standing ticks sequence step.
-use crate::answers::value;
+use crate::answers::{answered, value};
 use crate::frames::{address, at, written};
 use crate::tables::{entry, table};
 use address::{Address, Port, Seq};
@@ -7,7 +7,7 @@ use ledger::{Ledger, Leg, Standing};
 use ledger_accept::Added;
 use ledger_answer::Reply;
 use ledger_tick::Ticked;
-use limits_script::{answered, byte, taken};
+use limits_script::{byte, taken};
 use refusal::{Fault, Refusal};
 use std::io;
 use table::{Table, Target};

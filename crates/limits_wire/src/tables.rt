@@ -1,7 +1,8 @@
 // The next route.
+use crate::answers::answered;
 use crate::frames::at;
 use address::{Node, Port};
-use limits_script::{answered, byte};
+use limits_script::byte;
 use refusal::Refusal;
 use std::io;
 use table::{Choice, Entry, Table, Target};

@@ -1,7 +1,6 @@
 -- What C gets of pz_first and pz_next, from what the reader and the trace give.
-use Prim.Native.Nat.{ℕ, zero, suc}
+use Prim.Native.Nat.{ℕ}
 use mathlib.Core.Path.{◌≡◌, sym, ap, subst, ◌∙◌}
-use native.Mathlib.Omega.{arith}
 use mathlib.Core.List.{List}
 use native.Mathlib.Nat.{le_refl}
 use lib.ListN.{length}
@@ -12,17 +11,17 @@ use Rattle.chart.specs.declared.Chart.{Chart}
 use Rattle.std.specs.Prelude.{Result, Ok, Err}
 use Rattle.refusal.specs.declared.Refusal.{Refusal}
 use Rattle.refusal.specs.declared.Fault.{Fault}
-use Rattle.refusal.specs.Numbers.{number, Answers, AnswersAt}
+use Rattle.refusal.specs.Numbers.{number, AnswersAt}
 use Rattle.refusal.proofs.Laws.{names}
 use Rattle.chart_read.specs.Reading.{read_chart_of}
-use Rattle.route_search.specs.Answers.{Route, Refused, Told, told, first_route, next_route}
+use Rattle.route_search.specs.Answers.{Refused, traced, Told, first_route, next_route}
 use Rattle.route_search.proofs.Telling.{Promised}
 use Rattle.chart_net.specs.Private.{array_routes}
 use Rattle.chart_refuse.specs.Refusal.{chart_refusal}
 use Rattle.chart_write.proofs.Promises.{write_undoes_read}
-use Rattle.route_trace.specs.Trace.{traced, one_number, trace_first, trace_next}
+use Rattle.route_trace.specs.Trace.{one_number, trace_first, trace_next}
 use Rattle.route_trace.specs.Private.{first_known_refusal, next_known_refusal}
-use Rattle.route_trace.proofs.Laws.{first-known, next_known-trace}
+use Rattle.route_trace.proofs.Laws.{first-promised, next-promised}
 use Rattle.route_first_door.specs.Routes.{if_read, pz_first, pz_next}
 
 -- what C gets: the number k and the buffer o
@@ -32,14 +31,6 @@ Gives t k o = (k ≡ one_number t.answer) × (o ≡ t.bytes)
 -- a chart that is read is right, and needs no second test
 pub right : (bytes : List ℕ) → Bytes bytes → (read_chart_of bytes).refusal ≡ 0 → chart_refusal (read_chart_of bytes).chart ≡ 0
 right bytes b z = (write_undoes_read bytes b z bytes (le_refl (length bytes))).refusal
-
--- an answer is what is told
-traced-told : (n : ℕ) (r buf : List ℕ) (x : Result ℕ Refusal) → Answers x n (length r) → traced x ≡ (told n r buf).answer
-unfolding told unless_refused
-traced-told zero r buf (Ok k) h = ap Route h.1
-traced-told (suc n) r buf (Ok k) h = absurd (omega (arith, h.0))
-traced-told zero r buf (Err e) h = absurd (names.none_zero e h)
-traced-told (suc n) r buf (Err e) h = ap Refused h
 
 -- what the reader gives
 abbrev pub Reads : List ℕ → Result Chart Fault → Type 0
@@ -72,12 +63,12 @@ module _ (bytes buf : List ℕ) where
     unfolding pz_first trace_first
     first_read w =
         let v = (read_chart_of bytes).chart in
-        let q = first-known v (right bytes b h.0) buf (subst (λ (y : Chart). Promised (first_known_refusal y buf) (first_route (array_routes y)) buf x o) h.1.1 w) in
-        read (trace_first v buf) h.0 (p ∙ ap one_number (traced-told _ _ buf x q.value)) q.bytes
+        let q = first-promised v (right bytes b h.0) buf (subst (λ (y : Chart). Promised (first_known_refusal y buf) (first_route (array_routes y)) buf x o) h.1.1 w) in
+        read (trace_first v buf) h.0 (p ∙ ap one_number q.answer) q.bytes
 
     pub next-read : (n : ℕ) → Promised (next_known_refusal c buf n) (next_route (array_routes c) buf n) buf x o → Gives (pz_next bytes buf n) k o
     unfolding pz_next trace_next
     next-read n w =
         let v = (read_chart_of bytes).chart in
-        let q = next_known-trace v (right bytes b h.0) buf n (subst (λ (y : Chart). Promised (next_known_refusal y buf n) (next_route (array_routes y) buf n) buf x o) h.1.1 w) in
-        read (trace_next v buf n) h.0 (p ∙ ap one_number (traced-told _ _ buf x q.value)) q.bytes
+        let q = next-promised v (right bytes b h.0) buf n (subst (λ (y : Chart). Promised (next_known_refusal y buf n) (next_route (array_routes y) buf n) buf x o) h.1.1 w) in
+        read (trace_next v buf n) h.0 (p ∙ ap one_number q.answer) q.bytes

@@ -16,6 +16,14 @@ use Rattle.route_list.proofs.Slots.{Short, length-slot}
 
 -- ---- the room
 
+pub room_most : (n : ℕ) → 4095 < n / 16 → 4095 ≡ slot_room n
+unfolding slot_room
+room_most n h = rw (lt-ltb 4095 (n / 16) h)
+
+pub room-all : (n : ℕ) → n / 16 ≤ 4095 → n / 16 ≡ slot_room n
+unfolding slot_room
+room-all n h = rw (le-ltb 4095 (n / 16) h)
+
 pub room-least : (n : ℕ) → min 4095 (n / 16) ≡ slot_room n
 unfolding slot_room
 room-least n = go (ltb 4095 (n / 16)) refl

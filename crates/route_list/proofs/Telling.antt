@@ -7,7 +7,7 @@ use native.Mathlib.Omega.{arith}
 use borrow.Author.Tests.{lt-ltb, le-ltb, ltb-true, ltb-false}
 use lib.Dec.{ltb}
 use lib.ListN.{length, take, drop, replicate, length-take, take-append-drop}
-use lib.Seq.{sets, length-take-le, drop-append-le}
+use lib.Seq.{sets, take_all, length-take-le, drop-append-le}
 use Rattle.lists.specs.Refusals.{unless_refused}
 use Rattle.lists.proofs.Stores.{sets-front}
 use Rattle.route.specs.All.{first_of}
@@ -26,11 +26,23 @@ use Rattle.refusal.specs.declared.Refusal.TheVariants.{ChartCrowd, ChartStranger
 use Rattle.refusal.specs.Numbers.{number, Answers}
 use Rattle.refusal.proofs.Laws.{names}
 use Rattle.route_list.specs.declared.Listed.{Listed}
-use Rattle.route_list.specs.Listing.{slots_of, slot_room, list_refusal, list_count, list_more, list_answer, list_after, listing_of}
+use Rattle.route_list.specs.Listing.{slots_of, slot_room, list_refusal, list_count, list_more, list_answer, list_after, listing_of, listed}
 use Rattle.route_list.specs.Private.{list_refusal_over, Slots, stow_all, paths_on}
 use Rattle.route_list.proofs.Slots.{Short, short-take, length-slots, all_short}
 use Rattle.route_list.proofs.Stowing.{room-least, stow-all}
 use Rattle.route_list.proofs.Turns.{start-paths}
+
+-- an answer beside a refusal
+pub answer-refused : (k : ℕ) (rs : List (List ℕ)) (n : ℕ) → (k ≡ 0 → ⊥) → list_answer k rs n ≡ record { refusal = k; count = 0; more = false }
+unfolding list_answer list_count list_more unless_refused
+answer-refused zero rs n h = absurd (h refl)
+answer-refused (suc k) rs n h = refl
+
+-- a result with the answer's number and listing is the answer
+pub listed-answer : (x : Result Listed Refusal) (k : ℕ) (rs : List (List ℕ)) (n : ℕ) → Answers x k (listing_of (list_answer k rs n)) → listed x ≡ list_answer k rs n
+unfolding list_answer
+listed-answer (Ok l) k rs n h = λ i. record { refusal = sym h.0 i; count = (h.1 i).count; more = (h.1 i).more }
+listed-answer (Err r) k rs n h = rw (answer-refused k rs n (λ z. names.none_zero r (h ∙ z))) (λ i. record { refusal = h i; count = 0; more = false })
 
 -- what is promised of the answer and the bytes after it, where the refusal is k
 abbrev pub Gives : ℕ → List (List ℕ) → List ℕ → Result Listed Refusal → List ℕ → Type 0
@@ -124,6 +136,20 @@ module _ (rs : List (List ℕ)) (s : Short rs) (buf : List ℕ) (room : ℕ) (q 
         let t = length-take room rs in
         ap (λ (q : Slots). q.bytes ++ drop (16 * room) buf) all ∙ front-back buf (16 * room) fits (slots_of (take room rs)) (omega arith)
 
+    -- more than there is room for, and all of them
+    told_more : room < z.count → Gives (list_refusal rs (length buf)) rs buf (Ok (record { count = room; more = true })) (z.bytes ++ drop (16 * room) buf)
+    told_more h =
+        let c = counted in
+        let l : length (take room rs) ≡ room = length-take-le room rs (omega arith) in
+        accepting (list_refusal rs (length buf)) rs buf _ room room true (refusal-some rs (length buf) enough (omega arith)) q l (lt-ltb room (length rs) (omega arith)) written
+
+    told-all : 0 < length rs → z.count ≤ room → Gives (list_refusal rs (length buf)) rs buf (Ok (record { count = z.count; more = false })) (z.bytes ++ drop (16 * room) buf)
+    told-all ne h =
+        let c = counted in
+        let n : length rs ≤ room = omega arith in
+        let l : length (take room rs) ≡ z.count = ap length (take_all room rs n) ∙ omega arith in
+        accepting (list_refusal rs (length buf)) rs buf _ room z.count false (refusal-some rs (length buf) enough ne) q l (le-ltb room (length rs) n) written
+
     -- others follow where there are more than there is room for
     follow : (b : Bool) → ltb room z.count ≡ b → ltb room (length rs) ≡ b
     follow true h = let l = ltb-true room z.count h in let c = counted in lt-ltb room (length rs) (omega arith)
@@ -193,10 +219,9 @@ module _ (ends : List (List ℕ)) (ways : List ℕ) (links from to : ℕ) (buf :
       over : (r : Result Listed Refusal) → Gives (list_refusal (routes_over ends ways links from to) (length buf)) (routes_over ends ways links from to) buf r (z.bytes ++ drop (16 * room) buf) → Lists r (z.bytes ++ drop (16 * room) buf)
       over r g = subst (λ (k : ℕ). Gives k rs buf r (z.bytes ++ drop (16 * room) buf)) numbered g
 
-      pub lists : (answer : Bool) → Reaches t from answer → answer ≡ true
-          → Lists (Ok (record { count = min z.count room; more = ltb room z.count })) (z.bytes ++ drop (16 * room) buf)
+      some-listed : (answer : Bool) → Reaches t from answer → answer ≡ true → 0 < length (routes_over ends ways links from to)
       unfolding routes_over
-      lists answer R e = over (Ok (record { count = min z.count room; more = ltb room z.count })) (told rs short buf room q some z walked (some-routes rs (λ k. some-reached t from answer R H.walkable inside e (H.same from inside ∙ k))))
+      some-listed answer R e = some-routes rs (λ k. some-reached t from answer R H.walkable inside e (H.same from inside ∙ k))
         where
           H : Holds (net ends ways links to) t
           H = table-holds ends ways links to t b
@@ -204,3 +229,14 @@ module _ (ends : List (List ℕ)) (ways : List ℕ) (links from to : ℕ) (buf :
           some-routes : (l : List (List ℕ)) → (l ≡ [] → ⊥) → 0 < length l
           some-routes [] k = absurd (k refl)
           some-routes (r ∷ l) k = omega arith
+
+      pub lists_more : room < z.count → Lists (Ok (record { count = room; more = true })) (z.bytes ++ drop (16 * room) buf)
+      lists_more h = over (Ok (record { count = room; more = true })) (told_more rs short buf room q some z walked h)
+
+      pub list_all : (answer : Bool) → Reaches t from answer → answer ≡ true → z.count ≤ room
+          → Lists (Ok (record { count = z.count; more = false })) (z.bytes ++ drop (16 * room) buf)
+      list_all answer R e h = over (Ok (record { count = z.count; more = false })) (told-all rs short buf room q some z walked (some-listed answer R e) h)
+
+      pub lists : (answer : Bool) → Reaches t from answer → answer ≡ true
+          → Lists (Ok (record { count = min z.count room; more = ltb room z.count })) (z.bytes ++ drop (16 * room) buf)
+      lists answer R e = over (Ok (record { count = min z.count room; more = ltb room z.count })) (told rs short buf room q some z walked (some-listed answer R e))

@@ -1,7 +1,9 @@
 -- What the lister answers, and the lent bytes after it (document 02, Ten): all routes in order, each in a slot of 16 bytes, as many as there is room for.
-use Rattle.std.specs.Prelude.{ℕ, ◌-◌, ◌/◌, Bool, false, cond, List, [], ◌∷◌, ◌++◌, length, take, replicate, ltb}
+use Rattle.std.specs.Prelude.{ℕ, ◌-◌, ◌/◌, Bool, false, cond, List, [], ◌∷◌, ◌++◌, length, take, replicate, ltb, Result, Ok, Err}
 use Rattle.lists.specs.Refusals.{refuse, unless_refused}
 use Rattle.buffer.specs.Writing.{lent_after}
+use Rattle.refusal.specs.declared.Refusal.{Refusal}
+use Rattle.refusal.specs.Numbers.{number}
 use Rattle.route.specs.All.{first_of}
 use Rattle.route_search.specs.Answers.{longest_route, finding_refusal}
 use Rattle.route_list.specs.declared.Listed as code
@@ -50,6 +52,11 @@ pub record Listed : Type 0 where
 -- what is answered where nothing is refused
 abbrev pub listing_of : Listed → code.Listed
 listing_of l = record { count = l.count; more = l.more }
+
+-- what the lister's result is as an answer: 0 and no beside a refusal
+abbrev pub listed : Result code.Listed Refusal → Listed
+listed (Ok l) = record { refusal = 0; count = l.count; more = l.more }
+listed (Err r) = record { refusal = number r; count = 0; more = false }
 
 -- the answer with the refusal k, and the bytes after it
 unfoldable pub list_answer : ℕ → List (List ℕ) → ℕ → Listed

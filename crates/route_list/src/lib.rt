@@ -4,7 +4,7 @@
 ghost use Rattle.std.specs.Prelude.{◌≡◌, length};
 ghost use Rattle.refusal.specs.Numbers.{Answers};
 ghost use Rattle.route_search.specs.Private.{routes_over};
-ghost use Rattle.route_list.specs.Listing.{slot_room, list_answer, list_after, listing_of};
+ghost use Rattle.route_list.specs.Listing.{slot_room, list_answer, list_after, listing_of, listed};
 ghost use Rattle.route_list.specs.Private.{list_refusal_over};
 
 use chart::{MOST_LINKS, MOST_NODES};
@@ -44,6 +44,7 @@ pub fn list(
 ) -> Result<Listed, Refusal>
     ensures value { Answers result (list_refusal_over ends ways links from to (length out.old)) (listing_of (list_answer (list_refusal_over ends ways links from to (length out.old)) (routes_over ends ways links from to) (length out.old))) }
     ensures bytes { out.new ≡ list_after (list_refusal_over ends ways links from to (length out.old)) (routes_over ends ways links from to) out.old }
+    ensures answer { listed result ≡ list_answer (list_refusal_over ends ways links from to (length out.old)) (routes_over ends ways links from to) (length out.old) }
 {
     if (MOST_LINKS as usize) < links {
         return Err(Refusal::ChartCrowd);

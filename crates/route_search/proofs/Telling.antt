@@ -7,8 +7,9 @@ use native.Mathlib.Nat.{zero-add}
 use native.Mathlib.Omega.{arith}
 use borrow.Author.Tests.{lt-ltb, le-ltb, le-leb, lt-leb}
 use lib.ListN.{length, take}
-use lib.Seq.{take-append_seam}
+use lib.Seq.{sets, take-append_seam}
 use Rattle.lists.specs.Refusals.{unless_refused}
+use Rattle.lists.proofs.Refusals.{taken, refused}
 use Rattle.route.specs.All.{Finding, route, no_more, no_route, first_of, next_of}
 use Rattle.route_links.specs.Arrays.{net}
 use Rattle.route_links.specs.ByNode.{ByNode}
@@ -18,27 +19,78 @@ use Rattle.route_ahead.specs.Ahead.{Reaches}
 use Rattle.route_ahead.proofs.Going.{reached, unreached}
 use Rattle.route_links.proofs.Table.{table-holds}
 use Rattle.std.specs.Prelude.{Result, Ok, Err}
+use Rattle.std.specs.Result.{IsErrAnd}
 use Rattle.refusal.specs.declared.Refusal.{Refusal}
 use Rattle.refusal.specs.declared.Refusal.TheVariants.{ChartCrowd, ChartStranger, BadRoute, NoRouteRoom, NoRoute}
 use Rattle.refusal.specs.Numbers.{number, Answers}
 use Rattle.refusal.proofs.Laws.{names}
 use Rattle.route_search.specs.declared.Route as code
-use Rattle.route_search.specs.Answers.{finding_refusal, finding_route, Told, told, first_refusal, next_refusal, first_route, next_route}
+use Rattle.route_search.specs.Answers.{Route, Refused, traced, traced_refusal, traced_length, finding_refusal, finding_route, Told, told, first_refusal, next_refusal, first_route, next_route}
 use Rattle.route_search.specs.Private.{places_refusal, routes_over, first_refusal_over, next_refusal_over, zeros, Found, found_at, route_found, handed_over}
 use Rattle.route_search.proofs.Finding.{Finds, found-ok}
 
 -- ---- an answer's parts
 
 -- what is promised of an answer and of the bytes after it
-pub record Promised (refusal : ℕ) (r buf : List ℕ) (x : Result ℕ Refusal) (after : List ℕ) : Type 0 where
-  pub value : Answers x refusal (length r)
-  pub bytes : after ≡ (told refusal r buf).bytes
+pub record Promised (k : ℕ) (r buf : List ℕ) (x : Result ℕ Refusal) (after : List ℕ) : Type 0 where
+  pub value : Answers x k (length r)
+  pub bytes : after ≡ (told k r buf).bytes
+  pub answer : traced x ≡ (told k r buf).answer
+  pub refusal : traced_refusal (traced x) ≡ k
+  pub length : traced_length (traced x) ≡ unless_refused k (length r) 0
+
+pub told_refusal : (k : ℕ) (r buf : List ℕ) → traced_refusal (told k r buf).answer ≡ k
+unfolding told unless_refused
+told_refusal zero r buf = refl
+told_refusal (suc k) r buf = refl
+
+pub told-length : (k : ℕ) (r buf : List ℕ) → traced_length (told k r buf).answer ≡ unless_refused k (length r) 0
+unfolding told unless_refused
+told-length zero r buf = refl
+told-length (suc k) r buf = refl
+
+-- an answer with this number and length is what is told, and what is told has them
+pub traced-told : (k : ℕ) (r buf : List ℕ) (x : Result ℕ Refusal) → Answers x k (length r) → traced x ≡ (told k r buf).answer
+unfolding told unless_refused
+traced-told zero r buf (Ok n) h = ap Route h.1
+traced-told (suc k) r buf (Ok n) h = absurd (omega (arith, h.0))
+traced-told zero r buf (Err e) h = absurd (names.none_zero e h)
+traced-told (suc k) r buf (Err e) h = ap Refused h
+
+told-answers : (k : ℕ) (r buf : List ℕ) (x : Result ℕ Refusal) → traced x ≡ (told k r buf).answer → Answers x k (length r)
+unfolding told unless_refused
+told-answers zero r buf (Ok n) e = (refl, ap traced_length e)
+told-answers (suc k) r buf (Ok n) e = absurd (omega (arith, ap traced_refusal e))
+told-answers zero r buf (Err s) e = absurd (names.none_zero s (ap traced_refusal e))
+told-answers (suc k) r buf (Err s) e = ap traced_refusal e
+
+-- the whole promise, from the number, the length and the bytes, or from what is told
+pub promised : (k : ℕ) (r buf : List ℕ) (x : Result ℕ Refusal) {after : List ℕ} → Answers x k (length r) → after ≡ (told k r buf).bytes → Promised k r buf x after
+promised k r buf x h b =
+    let a = traced-told k r buf x h in
+    record { value = h; bytes = b; answer = a; refusal = ap traced_refusal a ∙ told_refusal k r buf; length = ap traced_length a ∙ told-length k r buf }
+
+pub as-told : (k : ℕ) (r buf : List ℕ) (x : Result ℕ Refusal) (after : List ℕ) → record { answer = traced x; bytes = after } ≡ told k r buf → Promised k r buf x after
+as-told k r buf x after e = promised k r buf x (told-answers k r buf x (ap (λ (t : Told). t.answer) e)) (ap (λ (t : Told). t.bytes) e)
+
+-- of the same answer and bytes the same
+pub carried : {k : ℕ} (r buf : List ℕ) {x y : Result ℕ Refusal} {after bytes : List ℕ} → traced y ≡ traced x → bytes ≡ after → Promised k r buf x after → Promised k r buf y bytes
+carried {k} r buf {y = y} p q h = promised k r buf y (told-answers k r buf y (p ∙ h.answer)) (q ∙ h.bytes)
+
+-- so is what a `?` passes on
+pub passed-on : {k : ℕ} (r buf : List ℕ) (x : Result ℕ Refusal) (e : Refusal) {after : List ℕ} → IsErrAnd x (λ s. s ≡ e) → Promised k r buf (Err e) after → Promised k r buf x after
+passed-on r buf (Ok n) e h p = absurd h
+passed-on r buf (Err s) e h p = carried r buf (ap (λ (i : Refusal). Refused (number i)) h) refl p
+
+-- a refusal: its number, and the buffer as it was
+abbrev pub refused_told : ℕ → List ℕ → Told
+refused_told k buf = record { answer = Refused k; bytes = buf }
 
 -- a refusal leaves the buffer as it was
 pub refusing : (n : ℕ) (e : Refusal) (r buf : List ℕ) → number e ≡ n → Promised n r buf (Err e) buf
 unfolding told unless_refused
 refusing zero e r buf h = absurd (names.none_zero e h)
-refusing (suc k) e r buf h = record { value = h; bytes = refl }
+refusing (suc k) e r buf h = promised (suc k) r buf (Err e) h refl
 
 -- ---- what was found
 
@@ -47,6 +99,15 @@ unfolding finding_refusal
 found_refusal d no_more = refl
 found_refusal d no_route = refl
 found_refusal d (route r) = refl
+
+-- by the number: a refusal, or the route
+pub handed-none : (f : Found) (buf : List ℕ) → (f.refusal ≡ 0 → ⊥) → refused_told f.refusal buf ≡ handed_over f buf
+unfolding handed_over
+handed-none f buf h = sym (refused _ _ f.refusal h)
+
+pub handed-route : (f : Found) (buf : List ℕ) → f.refusal ≡ 0 → record { answer = Route f.len; bytes = sets buf 0 (take f.len f.route) } ≡ handed_over f buf
+unfolding handed_over
+handed-route f buf h = sym (taken _ _ h)
 
 -- in the buffer: a refusal, or the route
 pub found-told : (o : Finding) (buf : List ℕ) → handed_over (found_at 0 o) buf ≡ told (finding_refusal o) (finding_route o) buf
@@ -67,10 +128,8 @@ pub telling : (k : ℕ) (o : Finding) (f : code.Route) (n : ℕ) (buf after : Li
     → after ≡ (handed_over (route_found f) buf).bytes → Promised k (finding_route o) buf (Ok n) after
 telling k o f n buf after h e l b =
     let w = found-ok (found_at 0 o) f e in
-    record {
-      value = (h ∙ sym (found_refusal 0 o) ∙ e.0, l ∙ found-length o f w);
-      bytes = b ∙ ap (λ (t : Told). t.bytes) (ap (λ (g : Found). handed_over g buf) w ∙ found-told o buf ∙ ap (λ (j : ℕ). told j (finding_route o) buf) (sym h));
-    }
+    promised k (finding_route o) buf (Ok n) (h ∙ sym (found_refusal 0 o) ∙ e.0, l ∙ found-length o f w)
+    (b ∙ ap (λ (t : Told). t.bytes) (ap (λ (g : Found). handed_over g buf) w ∙ found-told o buf ∙ ap (λ (j : ℕ). told j (finding_route o) buf) (sym h)))
 
 -- ---- the numbers, one at a time
 

@@ -1,7 +1,9 @@
 -- What first and next answer, and the lent bytes after them (document 01, "Routes and their order").
-use Rattle.std.specs.Prelude.{ℕ, List, [], length, take, ltb}
+use Rattle.std.specs.Prelude.{ℕ, List, [], length, take, ltb, Result, Ok, Err}
 use Rattle.std.proofs.lemmas.List.Edits.{sets}
 use Rattle.lists.specs.Refusals.{refuse, unless_refused}
+use Rattle.refusal.specs.declared.Refusal.{Refusal}
+use Rattle.refusal.specs.Numbers.{number}
 use Rattle.route.specs.All.{Finding, route, no_more, no_route, first_of, next_of}
 
 -- a route has at most 15 links
@@ -12,6 +14,11 @@ longest_route = 15
 pub data Traced : Type 0 where
   Route : ℕ → Traced
   Refused : ℕ → Traced
+
+-- what a length or a refusal is as an answer
+abbrev pub traced : Result ℕ Refusal → Traced
+traced (Ok n) = Route n
+traced (Err r) = Refused (number r)
 
 -- document 01's number and length for each case of an answer: 0 stands beside a route, 0 is the length beside a refusal
 abbrev pub traced_refusal : Traced → ℕ

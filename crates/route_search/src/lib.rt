@@ -3,8 +3,9 @@
 #![tactic(auto)]
 
 ghost use Rattle.std.specs.Prelude.{◌≡◌, ◌≤◌, length};
+ghost use Rattle.lists.specs.Refusals.{unless_refused};
 ghost use Rattle.refusal.specs.Numbers.{Answers};
-ghost use Rattle.route_search.specs.Answers.{longest_route, first_route, next_route};
+ghost use Rattle.route_search.specs.Answers.{longest_route, traced, traced_refusal, traced_length, first_route, next_route};
 ghost use Rattle.route_search.specs.Private.{route_found, handed_over, first_over, next_over, first_refusal_over, next_refusal_over, routes_over};
 
 use chart::{MOST_LINKS, MOST_NODES};
@@ -47,6 +48,9 @@ pub fn first_route(
 ) -> Result<u8, Refusal>
     ensures value { Answers result (first_refusal_over ends ways links from to buf.old) (length (first_route (routes_over ends ways links from to))) }
     ensures bytes { buf.new ≡ (first_over ends ways links from to buf.old).bytes }
+    ensures answer { traced result ≡ (first_over ends ways links from to buf.old).answer }
+    ensures refusal { traced_refusal (traced result) ≡ first_refusal_over ends ways links from to buf.old }
+    ensures length { traced_length (traced result) ≡ unless_refused (first_refusal_over ends ways links from to buf.old) (length (first_route (routes_over ends ways links from to))) 0 }
 {
     if (MOST_LINKS as usize) < links {
         return Err(Refusal::ChartCrowd);
@@ -77,6 +81,9 @@ pub fn next_route(
 ) -> Result<u8, Refusal>
     ensures value { Answers result (next_refusal_over ends ways links from to buf.old given) (length (next_route (routes_over ends ways links from to) buf.old given)) }
     ensures bytes { buf.new ≡ (next_over ends ways links from to buf.old given).bytes }
+    ensures answer { traced result ≡ (next_over ends ways links from to buf.old given).answer }
+    ensures refusal { traced_refusal (traced result) ≡ next_refusal_over ends ways links from to buf.old given }
+    ensures length { traced_length (traced result) ≡ unless_refused (next_refusal_over ends ways links from to buf.old given) (length (next_route (routes_over ends ways links from to) buf.old given)) 0 }
 {
     if (MOST_LINKS as usize) < links {
         return Err(Refusal::ChartCrowd);

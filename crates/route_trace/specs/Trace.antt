@@ -1,18 +1,11 @@
 -- What first, next and the lister answer of a chart, and the lent bytes after them (document 01, "Routes and their order"; document 02, Ten).
-use Rattle.std.specs.Prelude.{ℕ, List, length, Result, Ok, Err}
+use Rattle.std.specs.Prelude.{ℕ, List, length}
 use Rattle.lists.specs.Refusals.{or_else}
 use Rattle.chart.specs.declared.Chart.{Chart}
 use Rattle.chart_refuse.specs.Refusal.{chart_refusal}
-use Rattle.refusal.specs.declared.Refusal.{Refusal}
-use Rattle.refusal.specs.Numbers.{number}
 use Rattle.route_search.specs.Answers.{Traced, Route, Refused, Told, told, first_refusal, next_refusal, first_route, next_route}
 use Rattle.route_list.specs.Listing.{Listed, list_refusal, list_answer, list_after}
 use Rattle.chart_net.specs.Net.{routes_of}
-
--- what a length or a refusal is as an answer
-abbrev pub traced : Result ℕ Refusal → Traced
-traced (Ok n) = Route n
-traced (Err r) = Refused (number r)
 
 -- the one number of an answer: the route's length (0 to 15) or the refusal
 abbrev pub one_number : Traced → ℕ

@@ -3,11 +3,12 @@
 #![tactic(auto)]
 
 ghost use Rattle.std.specs.Prelude.{◌≡◌, length};
+ghost use Rattle.lists.specs.Refusals.{unless_refused};
 ghost use Rattle.refusal.specs.Numbers.{Answers};
-ghost use Rattle.route_search.specs.Answers.{first_route, next_route};
-ghost use Rattle.route_list.specs.Listing.{list_answer, list_after, listing_of};
+ghost use Rattle.route_search.specs.Answers.{traced, traced_refusal, traced_length, first_route, next_route};
+ghost use Rattle.route_list.specs.Listing.{list_answer, list_after, listing_of, listed};
 ghost use Rattle.chart_net.specs.Net.{routes_of};
-ghost use Rattle.route_trace.specs.Trace.{traced, one_number, first_refusal_of, next_refusal_of, list_refusal_of, trace_first, trace_next, trace_list, trace_slots};
+ghost use Rattle.route_trace.specs.Trace.{one_number, first_refusal_of, next_refusal_of, list_refusal_of, trace_first, trace_next, trace_list, trace_slots};
 ghost use Rattle.route_trace.specs.Private.{first_known_refusal, next_known_refusal, list_known_refusal, first_known, next_known};
 ghost use Rattle.chart_net.specs.Private.{array_routes};
 
@@ -32,6 +33,9 @@ pub fn one_number(t: Result<u8, Refusal>) -> u8
 pub fn first_known(c: Chart, buf: &mut [u8]) -> Result<u8, Refusal>
     ensures value { Answers result (first_known_refusal c buf.old) (length (first_route (array_routes c))) }
     ensures bytes { buf.new ≡ (first_known c buf.old).bytes }
+    ensures answer { traced result ≡ (first_known c buf.old).answer }
+    ensures refusal { traced_refusal (traced result) ≡ first_known_refusal c buf.old }
+    ensures length { traced_length (traced result) ≡ unless_refused (first_known_refusal c buf.old) (length (first_route (array_routes c))) 0 }
 {
     let links = c.links;
     let ends = ends_of(c);
@@ -44,6 +48,9 @@ pub fn first_known(c: Chart, buf: &mut [u8]) -> Result<u8, Refusal>
 pub fn next_known(c: Chart, buf: &mut [u8], given: usize) -> Result<u8, Refusal>
     ensures value { Answers result (next_known_refusal c buf.old given) (length (next_route (array_routes c) buf.old given)) }
     ensures bytes { buf.new ≡ (next_known c buf.old given).bytes }
+    ensures answer { traced result ≡ (next_known c buf.old given).answer }
+    ensures refusal { traced_refusal (traced result) ≡ next_known_refusal c buf.old given }
+    ensures length { traced_length (traced result) ≡ unless_refused (next_known_refusal c buf.old given) (length (next_route (array_routes c) buf.old given)) 0 }
 {
     let links = c.links;
     let ends = ends_of(c);
@@ -64,6 +71,7 @@ pub fn next_known(c: Chart, buf: &mut [u8], given: usize) -> Result<u8, Refusal>
 pub fn list_known(c: Chart, out: &mut [u8]) -> Result<Listed, Refusal>
     ensures value { Answers result (list_known_refusal c (length out.old)) (listing_of (list_answer (list_known_refusal c (length out.old)) (array_routes c) (length out.old))) }
     ensures bytes { out.new ≡ list_after (list_known_refusal c (length out.old)) (array_routes c) out.old }
+    ensures answer { listed result ≡ list_answer (list_known_refusal c (length out.old)) (array_routes c) (length out.old) }
 {
     let links = c.links;
     let ends = ends_of(c);
@@ -76,6 +84,9 @@ pub fn list_known(c: Chart, out: &mut [u8]) -> Result<Listed, Refusal>
 pub fn first(c: Chart, buf: &mut [u8]) -> Result<u8, Refusal>
     ensures value { Answers result (first_refusal_of c buf.old) (length (first_route (routes_of c))) }
     ensures bytes { buf.new ≡ (trace_first c buf.old).bytes }
+    ensures answer { traced result ≡ (trace_first c buf.old).answer }
+    ensures refusal { traced_refusal (traced result) ≡ first_refusal_of c buf.old }
+    ensures length { traced_length (traced result) ≡ unless_refused (first_refusal_of c buf.old) (length (first_route (routes_of c))) 0 }
 {
     chart_refusal(c)?;
     first_known(c, buf)
@@ -85,6 +96,9 @@ pub fn first(c: Chart, buf: &mut [u8]) -> Result<u8, Refusal>
 pub fn next(c: Chart, buf: &mut [u8], given: usize) -> Result<u8, Refusal>
     ensures value { Answers result (next_refusal_of c buf.old given) (length (next_route (routes_of c) buf.old given)) }
     ensures bytes { buf.new ≡ (trace_next c buf.old given).bytes }
+    ensures answer { traced result ≡ (trace_next c buf.old given).answer }
+    ensures refusal { traced_refusal (traced result) ≡ next_refusal_of c buf.old given }
+    ensures length { traced_length (traced result) ≡ unless_refused (next_refusal_of c buf.old given) (length (next_route (routes_of c) buf.old given)) 0 }
 {
     chart_refusal(c)?;
     next_known(c, buf, given)
@@ -94,6 +108,7 @@ pub fn next(c: Chart, buf: &mut [u8], given: usize) -> Result<u8, Refusal>
 pub fn list(c: Chart, out: &mut [u8]) -> Result<Listed, Refusal>
     ensures value { Answers result (list_refusal_of c (length out.old)) (listing_of (trace_list c (length out.old))) }
     ensures bytes { out.new ≡ trace_slots c out.old }
+    ensures answer { listed result ≡ trace_list c (length out.old) }
 {
     chart_refusal(c)?;
     list_known(c, out)

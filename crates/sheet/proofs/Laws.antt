@@ -62,11 +62,11 @@ kept-listed c ok e w q = (λ j. routes_held (e j) (w j) c.links.count (q j).from
 
 -- ---- what was read
 
-read-refused : (r : ChartRead) → (r.refusal ≡ 0 → ⊥) → refused_line r.refusal r.place ≡ read_text r
+pub read-refused : (r : ChartRead) → (r.refusal ≡ 0 → ⊥) → refused_line r.refusal r.place ≡ read_text r
 unfolding read_text
 read-refused r h = sym (refused (chart_text r.chart) (refused_line r.refusal r.place) r.refusal h)
 
-read-chart : (r : ChartRead) → r.refusal ≡ 0 → chart_text r.chart ≡ read_text r
+pub read-chart : (r : ChartRead) → r.refusal ≡ 0 → chart_text r.chart ≡ read_text r
 unfolding read_text unless_refused
 read-chart r e = rw e
 
@@ -80,7 +80,7 @@ pub input-long : (bytes : List ℕ) → 4096 < length bytes → long_line ≡ sh
 unfolding sheet_text
 input-long bytes h = rw (lt-ltb 4096 (length bytes) h)
 
-input-read : (bytes : List ℕ) → length bytes ≤ 4096 → read_text (read_chart_of bytes) ≡ sheet_text bytes
+pub input-read : (bytes : List ℕ) → length bytes ≤ 4096 → read_text (read_chart_of bytes) ≡ sheet_text bytes
 unfolding sheet_text
 input-read bytes h = rw (le-ltb 4096 (length bytes) h)
 

@@ -4,7 +4,7 @@ use Rattle.lists.specs.Places.{joined}
 use Rattle.lists.specs.Refusals.{refuse, unless_refused}
 use Rattle.refusal.specs.declared.Refusal.{Refusal}
 use Rattle.refusal.specs.Numbers.{Answers}
-use Rattle.buffer.specs.Writing.{lent_after}
+use Rattle.buffer.specs.Writing.{Written, wrote_unless, lent_after}
 use Rattle.chart.specs.declared.Chart.{Chart}
 use Rattle.chart.specs.Values.{node_at, link_at}
 use Rattle.chart_read.specs.Reading.{ChartRead, read_chart_of}
@@ -52,6 +52,10 @@ unfoldable pub sheet_refusal : List ℕ → ℕ → ℕ
 sheet_refusal bytes room = refuse 10 (ltb room (length (sheet_text bytes))) 0
 
 -- the number of bytes written, or 10
+unfoldable pub write_sheet_of : List ℕ → ℕ → Written
+write_sheet_of bytes room = wrote_unless (sheet_refusal bytes room) (length (sheet_text bytes))
+
+-- the same of the writer's result as the code has it
 abbrev pub SheetAnswers : List ℕ → ℕ → Result ℕ Refusal → Type 0
 SheetAnswers bytes room x = Answers x (sheet_refusal bytes room) (length (sheet_text bytes))
 

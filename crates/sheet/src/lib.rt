@@ -3,14 +3,16 @@
 
 ghost use Rattle.std.specs.Prelude.{◌≡◌, ◌≤◌, length};
 ghost use Rattle.lists.specs.Places.{joined};
+ghost use Rattle.lists.specs.Refusals.{unless_refused};
 ghost use Rattle.refusal.specs.Numbers.{Answers};
+ghost use Rattle.buffer.specs.Writing.{written, written_refusal, written_count};
 ghost use Rattle.chart.specs.Values.{most_links, most_nodes, node_at, link_at};
 ghost use Rattle.chart_refuse.specs.Refusal.{chart_refusal};
 ghost use Rattle.chart_net.specs.Net.{routes_of};
 ghost use Rattle.text.specs.Private.{Laid};
 ghost use Rattle.sheet_lines.specs.Lines.{node_line, link_line};
 ghost use Rattle.sheet_routes.specs.RouteLines.{most_routes, list_text};
-ghost use Rattle.sheet.specs.Sheet.{place, line_at, chart_text, sheet_text, sheet_refusal, sheet_after};
+ghost use Rattle.sheet.specs.Sheet.{place, line_at, chart_text, sheet_text, sheet_refusal, write_sheet_of, sheet_after};
 
 use chart::{Chart, Links, Nodes};
 use chart_net::{asked_of, ends_of, passages_for};
@@ -99,6 +101,9 @@ fn put_sheet(out: &mut [u8], at: usize, bytes: &[u8]) -> usize
 pub fn write_sheet(bytes: &[u8], out: &mut [u8]) -> Result<usize, Refusal>
     ensures value { Answers result (sheet_refusal bytes.now (length out.old)) (length (sheet_text bytes.now)) }
     ensures buffer { out.new ≡ sheet_after bytes.now out.old }
+    ensures answer { written result ≡ write_sheet_of bytes.now (length out.old) }
+    ensures refusal { written_refusal (written result) ≡ sheet_refusal bytes.now (length out.old) }
+    ensures count { written_count (written result) ≡ unless_refused (sheet_refusal bytes.now (length out.old)) (length (sheet_text bytes.now)) 0 }
 {
     if LONGEST_SHEET <= out.len() {
         let all = put_sheet(out, 0, bytes);

@@ -145,19 +145,23 @@ pub choose-told : (t : Table) (d : Address) (arrival : Port) (r : Result Taken R
     → (choice_in r ≡ choose_of t d arrival)
     × ((number_in r ≡ choose_refusal t d arrival)
     × ((choice_local (choice_in r) ≡ unless_refused (choose_refusal t d arrival) (is_own t d) false)
-    × (choice_port (choice_in r) ≡ unless_refused (choose_refusal t d arrival) (choose_port t d arrival) 0)))
+    × ((choice_port (choice_in r) ≡ unless_refused (choose_refusal t d arrival) (choose_port t d arrival) 0)
+    × (choice_refusal (choice_in r) ≡ choose_refusal t d arrival))))
 unfolding choose_of out_choice choose_refusal choose_port
 choose-told t d arrival r e =
     let b = by_tests (table_in_range t) (call_in_range d arrival) (is_own t d) (has_route t d arrival) d.port (out_port t d arrival) in
-    (e, (sym (number-told r) ∙ ap choice_refusal e ∙ b.0, (ap choice_local e ∙ b.1, ap choice_port e ∙ b.2)))
+    let n = ap choice_refusal e ∙ b.0 in
+    (e, (sym (number-told r) ∙ n, (ap choice_local e ∙ b.1, (ap choice_port e ∙ b.2, n))))
 
 -- all that `choice_for` promises, from its answer
 pub tested-told : (t : Table) (d : Address) (arrival : Port) (r : Result Taken Refusal) → choice_in r ≡ choice_for t d arrival
     → (choice_in r ≡ choice_for t d arrival)
     × ((number_in r ≡ choice_for_refusal t d arrival)
     × ((choice_local (choice_in r) ≡ unless_refused (choice_for_refusal t d arrival) (is_own t d) false)
-    × (choice_port (choice_in r) ≡ unless_refused (choice_for_refusal t d arrival) (choose_port t d arrival) 0)))
+    × ((choice_port (choice_in r) ≡ unless_refused (choice_for_refusal t d arrival) (choose_port t d arrival) 0)
+    × (choice_refusal (choice_in r) ≡ choice_for_refusal t d arrival))))
 unfolding choice_for out_choice choice_for_refusal choose_port
 tested-told t d arrival r e =
     let b = by_tests (leb t.count 32) true (is_own t d) (has_route t d arrival) d.port (out_port t d arrival) in
-    (e, (sym (number-told r) ∙ ap choice_refusal e ∙ b.0, (ap choice_local e ∙ b.1, ap choice_port e ∙ b.2)))
+    let n = ap choice_refusal e ∙ b.0 in
+    (e, (sym (number-told r) ∙ n, (ap choice_local e ∙ b.1, (ap choice_port e ∙ b.2, n))))

@@ -5,7 +5,7 @@ ghost use Rattle.std.specs.Prelude.{◌≡◌, false};
 ghost use Rattle.lists.specs.Refusals.{unless_refused};
 ghost use Rattle.refusal.specs.Numbers.{number_in};
 ghost use Rattle.table.specs.Choice.{choice_in};
-ghost use Rattle.table.specs.Table.{no_entry, own_station, is_own, choose_of, choice_local, choice_port, choose_refusal, choose_port};
+ghost use Rattle.table.specs.Table.{no_entry, own_station, is_own, choose_of, choice_refusal, choice_local, choice_port, choose_refusal, choose_port};
 ghost use Rattle.table.specs.Private.{choice_for, choice_for_refusal};
 
 use address::{Address, LARGEST_PORT, Node, Port, Station};
@@ -76,6 +76,7 @@ pub fn choice_for(table: Table, destination: Address, arrival: Port) -> Result<C
     ensures refusal { number_in result ≡ choice_for_refusal table destination arrival }
     ensures local { choice_local (choice_in result) ≡ unless_refused (choice_for_refusal table destination arrival) (is_own table destination) false }
     ensures port { choice_port (choice_in result) ≡ unless_refused (choice_for_refusal table destination arrival) (choose_port table destination arrival) 0 }
+    ensures number { choice_refusal (choice_in result) ≡ choice_for_refusal table destination arrival }
 {
     if MOST_ENTRIES < table.count {
         return Err(Refusal::BadTable);
@@ -92,6 +93,7 @@ pub fn choose(table: Table, destination: Address, arrival: Port) -> Result<Choic
     ensures refusal { number_in result ≡ choose_refusal table destination arrival }
     ensures local { choice_local (choice_in result) ≡ unless_refused (choose_refusal table destination arrival) (is_own table destination) false }
     ensures port { choice_port (choice_in result) ≡ unless_refused (choose_refusal table destination arrival) (choose_port table destination arrival) 0 }
+    ensures number { choice_refusal (choice_in result) ≡ choose_refusal table destination arrival }
 {
     if !table_in_range(table) {
         return Err(Refusal::BadTable);

@@ -7,7 +7,7 @@ ghost use Rattle.lists.specs.Places.{any_below, joined};
 ghost use Rattle.lists.specs.Refusals.{unless_refused};
 ghost use Rattle.refusal.specs.Numbers.{number_in};
 ghost use Rattle.table.specs.Choice.{choice_in};
-ghost use Rattle.table.specs.Table.{most_entries, entry_at, table_in_range, is_own, out_choice, choose_of, choose_refusal, choose_port, choice_local, choice_port};
+ghost use Rattle.table.specs.Table.{most_entries, entry_at, table_in_range, is_own, out_choice, choose_of, choose_refusal, choose_port, choice_refusal, choice_local, choice_port};
 ghost use Rattle.table_image.specs.Private.{ranged_entry_in, unranged_held};
 ghost use Rattle.table_image.specs.Table.{table_size, entries_start, entry_bytes, table_image, entry_count, target_of, entry_in, stray_entry_in, stray_entry_held, readable_table, table_of};
 
@@ -211,6 +211,7 @@ pub fn choose_in(b: &[u8], d: Address, arrival: Port) -> Result<Choice, Refusal>
     ensures refusal { number_in result ≡ choose_refusal (table_of b.now) d arrival }
     ensures local { choice_local (choice_in result) ≡ unless_refused (choose_refusal (table_of b.now) d arrival) (is_own (table_of b.now) d) false }
     ensures port { choice_port (choice_in result) ≡ unless_refused (choose_refusal (table_of b.now) d arrival) (choose_port (table_of b.now) d arrival) 0 }
+    ensures number { choice_refusal (choice_in result) ≡ choose_refusal (table_of b.now) d arrival }
 {
     if !image_in_range(b) {
         return Err(Refusal::BadTable);

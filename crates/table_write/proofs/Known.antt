@@ -94,9 +94,12 @@ abbrev missing : Nodes → ℕ → Bool
 missing ns a = leb ns.count a || leb 16 a
 
 module _ (c : Chart) (s : Station) {a : ℕ} (e : a ≡ station_place_for c.nodes s) where
-  pub known-none : missing c.nodes a ≡ true → 44 ≡ (write_known_of c s).refusal
+  pub answer-none : missing c.nodes a ≡ true → ◌≡◌ {A = TableWritten} (record { refusal = 44; table = no_table }) (write_known_of c s)
   unfolding write_known_of known_refusal unless_refused
-  known-none h = rw (← e, h)
+  answer-none h = rw (← e, h)
+
+  pub known-none : missing c.nodes a ≡ true → 44 ≡ (write_known_of c s).refusal
+  known-none h = ap (λ (w : TableWritten). w.refusal) (answer-none h)
 
   -- where it is one's, the nodes are not too many
   pub known-few : missing c.nodes a ≡ false → c.nodes.count ≤ 16
@@ -108,14 +111,23 @@ module _ (c : Chart) (s : Station) {a : ℕ} (e : a ≡ station_place_for c.node
           absurd (both_ways (ap (λ (x : Bool). leb c.nodes.count a || x) (le-leb 16 a (omega arith)) ∙ or_right (leb c.nodes.count a)) h)
       go false k = ltb-false 16 c.nodes.count k
 
+  pub answer-table : missing c.nodes a ≡ false → {ends : List (List ℕ)} {ways first : List ℕ} {t : Table}
+      → ends ≡ ends_for c.nodes c.links → ways ≡ passages_for c.links
+      → first ≡ first_links_over ends ways c.links.count c.nodes.count a → t ≡ table_over c s first
+      → ◌≡◌ {A = TableWritten} (record { refusal = 0; table = t }) (write_known_of c s)
+  unfolding write_known_of known_refusal unless_refused
+  answer-table h p w f q =
+      rw (← e, h)
+      (ap (λ (x : Table). record { refusal = 0; table = x })
+      (q ∙ ap (table_over c s) (f ∙ (λ i. first_links_over (p i) (w i) c.links.count c.nodes.count (e i))) ∙ kept_table c s (known-few h)))
+
   pub known-table : missing c.nodes a ≡ false → {ends : List (List ℕ)} {ways first : List ℕ} {t : Table}
       → ends ≡ ends_for c.nodes c.links → ways ≡ passages_for c.links
       → first ≡ first_links_over ends ways c.links.count c.nodes.count a → t ≡ table_over c s first
       → ((write_known_of c s).refusal ≡ 0) × (t ≡ (write_known_of c s).table)
-  unfolding write_known_of known_refusal unless_refused
   known-table h p w f q =
-      rw (← e, h)
-      (refl, q ∙ ap (table_over c s) (f ∙ (λ i. first_links_over (p i) (w i) c.links.count c.nodes.count (e i))) ∙ kept_table c s (known-few h))
+      let e = answer-table h p w f q in
+      (sym (ap (λ (w : TableWritten). w.refusal) e), ap (λ (w : TableWritten). w.table) e)
 
 -- ---- an accepted chart
 
@@ -169,12 +181,15 @@ same_answer {b' = b'} {t = t} {t' = t'} e h = rw e (go b' h)
     go false h = ap (answer false) (h refl)
 
 module _ (c : Chart) (s : Station) where
-  pub written-refused : {k : ℕ} → k ≡ chart_refusal c → (k ≡ 0 → ⊥) → k ≡ (write_table_of c s).refusal
+  pub answer-refused : {k : ℕ} → k ≡ chart_refusal c → (k ≡ 0 → ⊥) → ◌≡◌ {A = TableWritten} (record { refusal = k; table = no_table }) (write_table_of c s)
   unfolding write_table_of table_refusal
-  written-refused {k} e h =
+  answer-refused {k} e h =
       let q : table_refusal c s ≡ k = or-refused (chart_refusal c) (refuse 44 (not (has_node c.nodes s)) 0) (λ z. h (e ∙ z)) ∙ sym e in
-      sym (ap (λ (w : TableWritten). w.refusal)
-      (refused (record { refusal = 0; table = table_for c s }) (record { refusal = table_refusal c s; table = no_table }) _ (λ z. h (sym q ∙ z))) ∙ q)
+      sym (refused (record { refusal = 0; table = table_for c s }) (record { refusal = table_refusal c s; table = no_table }) _ (λ z. h (sym q ∙ z))
+      ∙ ap (λ (n : ℕ). record { refusal = n; table = no_table }) q)
+
+  pub written-refused : {k : ℕ} → k ≡ chart_refusal c → (k ≡ 0 → ⊥) → k ≡ (write_table_of c s).refusal
+  written-refused e h = ap (λ (w : TableWritten). w.refusal) (answer-refused e h)
 
   pub written_known : chart_refusal c ≡ 0 → write_known_of c s ≡ write_table_of c s
   unfolding write_table_of table_refusal write_known_of known_refusal

@@ -1,7 +1,9 @@
 -- A node's routing table written from the chart (document 02, Eight). The chart's question is not used.
-use Rattle.std.specs.Prelude.{ℕ, zero, suc, ◌-◌, true, not, cond, List, [], ◌∷◌, ◌++◌, length, replicate}
+use Rattle.std.specs.Prelude.{ℕ, zero, suc, ◌-◌, true, not, cond, List, [], ◌∷◌, ◌++◌, length, replicate, Result, Ok, Err}
 use Rattle.std.proofs.Math.Option.{Option, none, some}
 use Rattle.lists.specs.Refusals.{refuse, or_else, unless_refused}
+use Rattle.refusal.specs.declared.Refusal.{Refusal}
+use Rattle.refusal.specs.Numbers.{number}
 use Rattle.address.specs.declared.Station.{Station}
 use Rattle.address.specs.declared.Address.{Address}
 use Rattle.address.specs.Address.{station_of, same_station}
@@ -65,6 +67,11 @@ pub record TableWritten : Type 0 where
 -- beside a refusal: a table of no station, without entries
 unfoldable pub no_table : Table
 no_table = table_with no_station []
+
+-- what a table writer's result is as an answer: beside a refusal the table has no station and no entry
+abbrev pub table_written : Result Table Refusal → TableWritten
+table_written (Ok t) = record { refusal = 0; table = t }
+table_written (Err r) = record { refusal = number r; table = table_with no_station [] }
 
 unfoldable pub write_table_of : Chart → Station → TableWritten
 write_table_of c s =

@@ -4,7 +4,7 @@
 ghost use Rattle.std.specs.Prelude.{◌≡◌, ◌≤◌};
 ghost use Rattle.chart.specs.Values.{most_nodes};
 ghost use Rattle.refusal.specs.Numbers.{Answers};
-ghost use Rattle.table_write.specs.Writing.{near_end, entry_over, write_table_of};
+ghost use Rattle.table_write.specs.Writing.{near_end, entry_over, table_written, write_table_of};
 ghost use Rattle.table_write.specs.Private.{table_over, write_known_of};
 
 use address::{Address, Station};
@@ -57,7 +57,8 @@ fn table_over(c: Chart, s: Station, first: [u8; 16]) -> Table
 
 // The table of one of the nodes, for a chart that is known to be right; or 44.
 pub fn write_known(c: Chart, s: Station) -> Result<Table, Refusal>
-    ensures { Answers result (write_known_of c s).refusal (write_known_of c s).table }
+    ensures value { Answers result (write_known_of c s).refusal (write_known_of c s).table }
+    ensures answer { table_written result ≡ write_known_of c s }
 {
     let a = chart_net::place_of(c.nodes, s);
     if (c.nodes.count <= a) | (MOST_NODES <= a) {
@@ -71,7 +72,8 @@ pub fn write_known(c: Chart, s: Station) -> Result<Table, Refusal>
 
 // The table of one of the chart's nodes, written from the chart; or a refusal.
 pub fn write_table(c: Chart, s: Station) -> Result<Table, Refusal>
-    ensures { Answers result (write_table_of c s).refusal (write_table_of c s).table }
+    ensures value { Answers result (write_table_of c s).refusal (write_table_of c s).table }
+    ensures answer { table_written result ≡ write_table_of c s }
 {
     chart_refuse::chart_refusal(c)?;
     write_known(c, s)

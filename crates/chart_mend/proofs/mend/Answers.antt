@@ -7,17 +7,17 @@ use native.Mathlib.Omega.{arith}
 use lib.ListN.{length, take}
 use lib.Seq.{sets}
 use borrow.Author.Tests.{not-true, not-false}
-use Rattle.std.specs.Prelude.{Ok}
+use Rattle.std.specs.Prelude.{Ok, Err}
 use Rattle.refusal.specs.declared.Refusal.TheVariants.{NoRoom, ChartUnasked, ChartLong}
 use Rattle.chart_mend.specs.Mending.{held_of, kept_bytes, list_bytes}
-use Rattle.chart_mend.proofs.Mending.{too_long, no_question, no_room, no-list-room, laid-aside, both-short, Comes, comes-refused, comes-taken}
+use Rattle.chart_mend.proofs.Mending.{too_long, no_question, no_room, no-list-room, laid-aside, both-short, Comes, comes-refused, comes-taken, mend-answer}
 use Rattle.chart_mend.proofs.mend.Goals as goal
 
 pub returns-then-input-gt-LONGEST_INPUT : goal.returns-then-input-gt-LONGEST_INPUT
 returns-then-input-gt-LONGEST_INPUT c =
     let a = c.args in
     let w = comes-refused a.input.now a.out.now a.list.now ChartLong (too_long a.input.now (length a.out.now) (length a.list.now) c.if-input-gt-LONGEST_INPUT.true) in
-    record { value = w.0; chart = w.1.0; list = w.1.1 }
+    record { value = w.0; chart = w.1.0; list = w.1.1; answer = mend-answer a.input.now (length a.out.now) (length a.list.now) (Err ChartLong) w.0 }
 
 pub returns-then-not-s : goal.returns-then-not-s
 returns-then-not-s c =
@@ -27,7 +27,7 @@ returns-then-not-s c =
     let short : length input ≤ 65535 = c.if-input-gt-LONGEST_INPUT.false in
     let w = comes-refused input out list ChartUnasked
     (no_question input (length out) (length list) short (sym c.sort-s.ensures.asked ∙ not-true _ c.if-not-s.true)) in
-    record { value = w.0; chart = w.1.0; list = w.1.1 }
+    record { value = w.0; chart = w.1.0; list = w.1.1; answer = mend-answer input (length out) (length list) (Err ChartUnasked) w.0 }
 
 pub returns-then-out-s : goal.returns-then-out-s
 returns-then-out-s c =
@@ -38,7 +38,7 @@ returns-then-out-s c =
     let w = comes-refused input out list NoRoom
     (no_room input (length out) (length list) short (sym c.sort-s.ensures.asked ∙ not-false _ c.if-not-s.false)
     (omega (arith, c.if-out-s.true, c.sort-s.ensures.kept))) in
-    record { value = w.0; chart = w.1.0; list = w.1.1 }
+    record { value = w.0; chart = w.1.0; list = w.1.1; answer = mend-answer input (length out) (length list) (Err NoRoom) w.0 }
 
 pub returns-then-list-s : goal.returns-then-list-s
 returns-then-list-s c =
@@ -51,7 +51,7 @@ returns-then-list-s c =
     (sym c.sort-s.ensures.asked ∙ not-false _ c.if-not-s.false)
     (omega (arith, c.if-out-s.false, c.sort-s.ensures.kept))
     (omega (arith, c.if-list-s.true, c.sort-s.ensures.listed))) in
-    record { value = w.0; chart = w.1.0; list = w.1.1 }
+    record { value = w.0; chart = w.1.0; list = w.1.1; answer = mend-answer input (length out) (length list) (Err NoRoom) w.0 }
 
 pub returns-then-s : goal.returns-then-s
 returns-then-s c =
@@ -72,7 +72,7 @@ returns-then-s c =
     let w = comes _ _
     (c.put_all.ensures ∙ ap (sets out 0) kept_again)
     (c.put_all-then-s.ensures ∙ ap (sets list 0) listed-again) in
-    record { value = w.0; chart = w.1.0; list = w.1.1 }
+    record { value = w.0; chart = w.1.0; list = w.1.1; answer = mend-answer input (length out) (length list) (Ok (record { kept = c.sort-s.result.kept; listed = c.sort-s.result.listed })) w.0 }
 
 pub returns-else-s : goal.returns-else-s
 returns-else-s c =
@@ -84,4 +84,4 @@ returns-else-s c =
     let comes : (out' list' : List ℕ) → out' ≡ sets out 0 (kept_bytes input) → list' ≡ sets list 0 (list_bytes input) → Comes input out list (Ok (record { kept = c.sort-s.result.kept; listed = c.sort-s.result.listed })) out' list' = λ out' list' p q. comes-taken input out list short asked _ _ c.sort-s.ensures.kept c.sort-s.ensures.listed
     c.if-out-s.false c.if-list-s.false out' list' p q in
     let w = comes _ _ c.sort.ensures.out_after c.sort.ensures.list_after in
-    record { value = w.0; chart = w.1.0; list = w.1.1 }
+    record { value = w.0; chart = w.1.0; list = w.1.1; answer = mend-answer input (length out) (length list) (Ok (record { kept = c.sort-s.result.kept; listed = c.sort-s.result.listed })) w.0 }

@@ -13,7 +13,8 @@ loop-at-init c = holding-start c.args.bytes.now _ _ _ c.no_node-no_node.ensures 
 pub returns-in-Err : goal.returns-in-Err
 returns-in-Err c =
     let f = field-here c.loop-at.invariant c.type_inv.bytes c.loop-at-test.true in
-    parts-refused (refused-field f c.in-Err.ensures.refusal (names.none_zero _))
+    let e = refused-field f c.in-Err.ensures.refusal (names.none_zero _) in
+    record { value = parts-refused e; answer = e }
 
 pub body_at-b-requires : goal.body_at-b-requires
 body_at-b-requires c =
@@ -57,7 +58,11 @@ loop-at-preserved c =
     holding-question f _ _ c.in_default.ensures r.0.1 (no-form _ r.1) c.station_in-from.ensures c.station_in-to.ensures
 
 pub returns-then-not-keys : goal.returns-then-not-keys
-returns-then-not-keys c = parts-refused (ends-unasked _ _ c.loop-at.invariant c.loop-at-test.false c.if-not-keys.true)
+returns-then-not-keys c =
+    let e = ends-unasked _ _ c.loop-at.invariant c.loop-at-test.false c.if-not-keys.true in
+    record { value = parts-refused e; answer = e }
 
 pub returns : goal.returns
-returns c = parts-read (ends_asked _ _ c.loop-at.invariant c.loop-at-test.false c.if-not-keys.false)
+returns c =
+    let e = ends_asked _ _ c.loop-at.invariant c.loop-at-test.false c.if-not-keys.false in
+    record { value = parts-read e; answer = e }

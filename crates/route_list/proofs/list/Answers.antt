@@ -1,13 +1,16 @@
 -- `route_list::list` meets its contract: 26, 28 and 42 in their turn, 43 where no route leads from the first node; else the walk over the table counts the
 -- routes and writes as many as there is room for.
-use Prim.Native.Nat.{◌*◌}
+use Prim.Native.Nat.{◌*◌, min}
 use mathlib.Core.Path.{sym, ap}
 use native.Mathlib.Omega.{arith}
 use borrow.Author.Tests.{not-true, not-false}
+use lib.Dec.{ltb}
 use lib.ListN.{length}
 use lib.Seq.{length-take-le}
+use Rattle.std.specs.Prelude.{Ok, Err}
+use Rattle.refusal.specs.declared.Refusal.TheVariants.{ChartCrowd, ChartStranger, NoRouteRoom, NoRoute}
 use Rattle.route_links.proofs.Table.{table-holds}
-use Rattle.route_list.proofs.Telling.{room_fits, room_small, list-many, list-placeless, list-roomless, list-nowhere, lists}
+use Rattle.route_list.proofs.Telling.{room_fits, room_small, list-many, list-placeless, list-roomless, list-nowhere, lists, listed-answer}
 use Rattle.route_list.proofs.Turns.{start-walking}
 use mathlib.Core.Bool.{not}
 use Rattle.route_list.proofs.list.Goals as goal
@@ -16,20 +19,20 @@ pub returns-then-links : goal.returns-then-links
 returns-then-links c =
     let a = c.args in
     let w = list-many a.ends a.ways a.links a.from a.to a.out.now c.if-links.true in
-    record { value = w.0; bytes = w.1 }
+    record { value = w.0; bytes = w.1; answer = listed-answer (Err ChartCrowd) _ _ _ w.0 }
 
 pub returns-then-from-ge-MOST_NODES : goal.returns-then-from-ge-MOST_NODES
 returns-then-from-ge-MOST_NODES c =
     let a = c.args in
     let w = list-placeless a.ends a.ways a.links a.from a.to a.out.now c.if-links.false c.if-from-ge-MOST_NODES.true in
-    record { value = w.0; bytes = w.1 }
+    record { value = w.0; bytes = w.1; answer = listed-answer (Err ChartStranger) _ _ _ w.0 }
 
 pub returns-then-room-eq0 : goal.returns-then-room-eq0
 returns-then-room-eq0 c =
     let a = c.args in
     let r = c.slot_room-room in
     let w = list-roomless a.ends a.ways a.links a.from a.to a.out.now c.if-links.false c.if-from-ge-MOST_NODES.false r.result r.ensures c.if-room-eq0.true in
-    record { value = w.0; bytes = w.1 }
+    record { value = w.0; bytes = w.1; answer = listed-answer (Err NoRouteRoom) _ _ _ w.0 }
 
 pub returns-then-not-reaches : goal.returns-then-not-reaches
 returns-then-not-reaches c =
@@ -39,7 +42,7 @@ returns-then-not-reaches c =
     let a = c.args in
     let w = list-nowhere a.ends a.ways a.links a.from a.to a.out.now c.if-links.false c.if-from-ge-MOST_NODES.false r.result r.ensures
     c.if-room-eq0.false t.result t.ensures g.result g.ensures (not-true _ (ap not c.if-not-reaches.true)) in
-    record { value = w.0; bytes = w.1 }
+    record { value = w.0; bytes = w.1; answer = listed-answer (Err NoRoute) _ _ _ w.0 }
 
 pub overflow_mul-room : goal.overflow_mul-room
 overflow_mul-room c =
@@ -73,6 +76,7 @@ returns c =
     let r = c.slot_room-room in
     let g = c.reaches in
     let w = c.walk_on-n in
-    let w = lists a.ends a.ways a.links a.from a.to a.out.now c.if-links.false c.if-from-ge-MOST_NODES.false r.result r.ensures c.if-room-eq0.false t.result t.ensures
+    let u = lists a.ends a.ways a.links a.from a.to a.out.now c.if-links.false c.if-from-ge-MOST_NODES.false r.result r.ensures c.if-room-eq0.false t.result t.ensures
     (record { bytes = w.new.out; count = w.result }) w.ensures g.result g.ensures (not-false _ (ap not c.if-not-reaches.false)) in
-    record { value = (w.0.0, rw c.min.ensures w.0.1); bytes = w.1 }
+    let m = listed-answer (Ok (record { count = min w.result r.result; more = ltb r.result w.result })) _ _ _ u.0 in
+    record { value = (u.0.0, rw c.min.ensures u.0.1); bytes = u.1; answer = rw c.min.ensures m }

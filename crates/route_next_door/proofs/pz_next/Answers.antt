@@ -9,9 +9,9 @@ pub returns-in-Ok : goal.returns-in-Ok
 unfolding next_known
 returns-in-Ok c =
     let h = c.next_known.ensures in
-    next-read c.args.chart.now c.args.route.now (λ i. omega (arith, c.type_inv.chart i)) c.in-Ok.c c.in-Ok.ensures c.one_number.ensures c.args.length (record { value = h.value; bytes = h.bytes })
+    next-read c.args.chart.now c.args.route.now (λ i. omega (arith, c.type_inv.chart i)) c.in-Ok.c c.in-Ok.ensures.value c.one_number.ensures c.args.length (record { value = h.value; bytes = h.bytes; answer = h.answer; refusal = h.refusal; length = h.length })
 
 pub returns-in-Err : goal.returns-in-Err
 returns-in-Err c =
-    let w = next-unread c.args.chart.now c.args.route.now c.args.length c.in-Err.fault c.in-Err.ensures in
+    let w = next-unread c.args.chart.now c.args.route.now c.args.length c.in-Err.fault c.in-Err.ensures.value in
     (c.number.ensures ∙ w.0, w.1)

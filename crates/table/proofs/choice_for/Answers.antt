@@ -21,16 +21,16 @@ own-told t d e o f = rw (e, o, f)
 pub returns-then-table-gt-MOST_ENTRIES : goal.returns-then-table-gt-MOST_ENTRIES
 returns-then-table-gt-MOST_ENTRIES c =
     let w = tested-told c.args.table c.args.destination c.args.arrival (Err BadTable) (sym (tested-50 _ _ _ c.if-table-gt-MOST_ENTRIES.true)) in
-    record { value = w.0; refusal = w.1.0; local = w.1.1.0; port = w.1.1.1 }
+    record { value = w.0; refusal = w.1.0; local = w.1.1.0; port = w.1.1.1.0; number = w.1.1.1.1 }
 
 pub returns-then-same_station : goal.returns-then-same_station
 returns-then-same_station c =
     let own = own-told c.args.table c.args.destination c.same_station.ensures c.own_station.ensures c.station_of.ensures in
     let w = tested-told c.args.table c.args.destination c.args.arrival (Ok (Local c.args.destination.port)) (sym (tested-here _ _ _ c.if-table-gt-MOST_ENTRIES.false (told-true own c.if-same_station.true))) in
-    record { value = w.0; refusal = w.1.0; local = w.1.1.0; port = w.1.1.1 }
+    record { value = w.0; refusal = w.1.0; local = w.1.1.0; port = w.1.1.1.0; number = w.1.1.1.1 }
 
 pub returns : goal.returns
 returns c =
     let own = own-told c.args.table c.args.destination c.same_station.ensures c.own_station.ensures c.station_of.ensures in
     let w = tested-told c.args.table c.args.destination c.args.arrival c.out_choice.result (c.out_choice.ensures ∙ sym (tested-by _ _ _ c.if-table-gt-MOST_ENTRIES.false (told-false own c.if-same_station.false))) in
-    record { value = w.0; refusal = w.1.0; local = w.1.1.0; port = w.1.1.1 }
+    record { value = w.0; refusal = w.1.0; local = w.1.1.0; port = w.1.1.1.0; number = w.1.1.1.1 }
