@@ -19,7 +19,7 @@
  * file. Any call may be made on any thread at any time, as long as nobody else writes what it
  * reads, or touches what it writes.
  *
- * Stack. Measured, not proved: pz_sheet needs 23,472 bytes, the calls on a ledger up to 13,736,
+ * Stack. Measured, not proved: pz_sheet needs 23,440 bytes, the calls on a ledger up to 11,688,
  * pz_next up to 7,296, pz_chart_renew and pz_chart_restore 6,568, pz_routes 6,448, pz_first 6,272,
  * pz_pass 5,284, all others less than 4,700.
  * tests/stack.c makes each call on a painted stack, over the largest inputs and the deepest
