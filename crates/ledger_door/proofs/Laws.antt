@@ -39,6 +39,11 @@ module _ (b : List ℕ) (refusal : ℕ) (after : Ledger) (n : ℕ) where
   unfolding ledger_after
   left k x j e g = (g.0 ∙ e, g.1 ∙ refused _ b (number k) (names.none_zero k) ∙ sym (refused _ b refusal (λ z. names.none_zero k (e ∙ z))))
 
+-- beside a refusal nothing is put back
+unwritten : (b : List ℕ) (k : Refusal) (l : Ledger) (n : ℕ) → b ≡ ledger_after b (number k) l n
+unfolding ledger_after
+unwritten b k l n = sym (refused _ b (number k) (names.none_zero k))
+
 module _ (b : List ℕ) (by to : Address) (seq : Seq) (reply : Reply) {l : Ledger} {p : Reply} (e : l ≡ ledger_of b) (q : p ≡ reply) where
   pub answer-put : {x : Ledger} {r : ℕ} {m : List ℕ} → ((answer_of l by to seq p).refusal ≡ 0) × (x ≡ (answer_of l by to seq p).ledger)
       → (r ≡ 0) × (m ≡ ledger_after b 0 x l.count) → (r ≡ (pz_answer b by to seq reply).refusal) × (m ≡ pz_answer_image b by to seq reply)
@@ -47,12 +52,17 @@ module _ (b : List ℕ) (by to : Address) (seq : Seq) (reply : Reply) {l : Ledge
       let o : Put b (answer_of l by to seq p).refusal (answer_of l by to seq p).ledger l.count r m = put b _ _ _ w.0 w.1 g in
       rw (e, q) at o
 
-  pub answer-left : (k : Refusal) {r : ℕ} {m : List ℕ} → number k ≡ (answer_of l by to seq p).refusal → (r ≡ number k) × (m ≡ ledger_after b (number k) l l.count)
+  pub answer-refused : (k : Refusal) {r : ℕ} {m : List ℕ} → number k ≡ (answer_of l by to seq p).refusal → (r ≡ number k) × (m ≡ ledger_after b (number k) l l.count)
       → (r ≡ (pz_answer b by to seq reply).refusal) × (m ≡ pz_answer_image b by to seq reply)
   unfolding pz_answer pz_answer_image
-  answer-left k {r} {m} w g =
+  answer-refused k {r} {m} w g =
       let o : Put b (answer_of l by to seq p).refusal (answer_of l by to seq p).ledger l.count r m = left b _ _ _ k l l.count w g in
       rw (e, q) at o
+
+  -- so of a refused call the image is as it was
+  pub answer-left : (k : Refusal) {r : ℕ} → number k ≡ (answer_of l by to seq p).refusal → r ≡ number k
+      → (r ≡ (pz_answer b by to seq reply).refusal) × (b ≡ pz_answer_image b by to seq reply)
+  answer-left k w f = answer-refused k w (f, unwritten b k l l.count)
 
 module _ (b : List ℕ) (place : ℕ) {l : Ledger} (e : l ≡ ledger_of b) where
   pub clear-put : {x : Ledger} {r : ℕ} {m : List ℕ} → ((clear_of l place).refusal ≡ 0) × (x ≡ (clear_of l place).ledger)
@@ -62,12 +72,16 @@ module _ (b : List ℕ) (place : ℕ) {l : Ledger} (e : l ≡ ledger_of b) where
       let o : Put b (clear_of l place).refusal (clear_of l place).ledger l.count r m = put b _ _ _ w.0 w.1 g in
       rw e at o
 
-  pub clear-left : (k : Refusal) {r : ℕ} {m : List ℕ} → number k ≡ (clear_of l place).refusal → (r ≡ number k) × (m ≡ ledger_after b (number k) l l.count)
+  pub clear-refused : (k : Refusal) {r : ℕ} {m : List ℕ} → number k ≡ (clear_of l place).refusal → (r ≡ number k) × (m ≡ ledger_after b (number k) l l.count)
       → (r ≡ (pz_clear b place).refusal) × (m ≡ pz_clear_image b place)
   unfolding pz_clear pz_clear_image
-  clear-left k {r} {m} w g =
+  clear-refused k {r} {m} w g =
       let o : Put b (clear_of l place).refusal (clear_of l place).ledger l.count r m = left b _ _ _ k l l.count w g in
       rw e at o
+
+  pub clear-left : (k : Refusal) {r : ℕ} → number k ≡ (clear_of l place).refusal → r ≡ number k
+      → (r ≡ (pz_clear b place).refusal) × (b ≡ pz_clear_image b place)
+  clear-left k w f = clear-refused k w (f, unwritten b k l l.count)
 
 module _ (b : List ℕ) {l : Ledger} (e : l ≡ ledger_of b) where
   pub tick-put : {t : Ticked} {r : ℕ} {m : List ℕ} → ((tick_of l).refusal ≡ 0) × (t ≡ record { ledger = (tick_of l).ledger; ended = (tick_of l).ended })
@@ -82,13 +96,17 @@ module _ (b : List ℕ) {l : Ledger} (e : l ≡ ledger_of b) where
   unfolding tick_of
   none-ended k w = sym (refused _ 0 _ (λ z. names.none_zero k (w ∙ z)))
 
-  pub tick-left : (k : Refusal) {r : ℕ} {m : List ℕ} → number k ≡ (tick_of l).refusal → (r ≡ number k) × (m ≡ ledger_after b (number k) l l.count)
+  pub tick-refused : (k : Refusal) {r : ℕ} {m : List ℕ} → number k ≡ (tick_of l).refusal → (r ≡ number k) × (m ≡ ledger_after b (number k) l l.count)
       → (r ≡ (pz_tick b).refusal) × (0 ≡ (pz_tick b).ended) × (m ≡ pz_tick_image b)
   unfolding pz_tick pz_tick_image
-  tick-left k {r} {m} w g =
+  tick-refused k {r} {m} w g =
       let o : Put b (tick_of l).refusal (tick_of l).ledger l.count r m = left b _ _ _ k l l.count w g in
       let p : Put b (tick_of (ledger_of b)).refusal (tick_of (ledger_of b)).ledger (ledger_of b).count r m = rw e at o in
       (p.0, none-ended k w ∙ ap (λ (x : Ledger). (tick_of x).ended) e, p.1)
+
+  pub tick-left : (k : Refusal) {r : ℕ} → number k ≡ (tick_of l).refusal → r ≡ number k
+      → (r ≡ (pz_tick b).refusal) × (0 ≡ (pz_tick b).ended) × (b ≡ pz_tick_image b)
+  tick-left k w f = tick-refused k w (f, unwritten b k l l.count)
 
 module _ (b f : List ℕ) (arrival : Port) (table : List ℕ) (ticks : ℕ) {l : Ledger} {t : Table} (e : l ≡ ledger_of b) (q : t ≡ table_of table) where
   -- what accept comes to, by the values of the two images
@@ -111,10 +129,14 @@ module _ (b f : List ℕ) (arrival : Port) (table : List ℕ) (ticks : ℕ) {l :
   unfolding accept_of
   none-added k w = sym (refused _ 0 _ (λ z. names.none_zero k.refusal (w ∙ z)))
 
-  pub accept-left : (k : Fault) {r : ℕ} {m : List ℕ} → (number k.refusal ≡ (accept_of l f arrival t ticks).refusal) × (k.place ≡ (accept_of l f arrival t ticks).place)
+  pub accept-refused : (k : Fault) {r : ℕ} {m : List ℕ} → (number k.refusal ≡ (accept_of l f arrival t ticks).refusal) × (k.place ≡ (accept_of l f arrival t ticks).place)
       → (r ≡ number k.refusal) × (m ≡ ledger_after b (number k.refusal) l l.count)
       → (r ≡ (pz_accept b f arrival table ticks).refusal) × (0 ≡ (pz_accept b f arrival table ticks).added) × (k.place ≡ (pz_accept b f arrival table ticks).place) × (m ≡ pz_accept_image b f arrival table ticks)
-  accept-left k w g = from-images (left b _ _ _ k.refusal l l.count w.0 g) (none-added k w.0) w.1 refl
+  accept-refused k w g = from-images (left b _ _ _ k.refusal l l.count w.0 g) (none-added k w.0) w.1 refl
+
+  pub accept-left : (k : Fault) {r : ℕ} → (number k.refusal ≡ (accept_of l f arrival t ticks).refusal) × (k.place ≡ (accept_of l f arrival t ticks).place) → r ≡ number k.refusal
+      → (r ≡ (pz_accept b f arrival table ticks).refusal) × (0 ≡ (pz_accept b f arrival table ticks).added) × (k.place ≡ (pz_accept b f arrival table ticks).place) × (b ≡ pz_accept_image b f arrival table ticks)
+  accept-left k w g = accept-refused k w (g, unwritten b k.refusal l l.count)
 
   -- its place is near
   pub place-small : Bytes f → (k : Fault) → k.place ≡ (accept_of l f arrival t ticks).place → k.place ≤ 1222

@@ -1,9 +1,14 @@
-// The lines that ask of document 01's limits: where a line ends, its numbers, and these as bytes and as so many bytes of a slice. Printing is left to the
-// programs: no contract can say what is printed.
+// The lines that ask of document 01's limits: where a line ends, its numbers, and these as bytes and as so many bytes of a slice; and each line printed
+// with what a caller answers. No contract can say what is printed.
 #![tactic(auto)]
 
 ghost use Rattle.std.specs.Prelude.{◌≡◌, ◌+◌, ◌-◌, ◌≤◌, ◌%◌, min, length, take};
 ghost use Rattle.limits_script.specs.Private.{line_end, longer_of, numbers_of, bytes_of};
+
+use std::io::Result;
+
+#[cfg(test)]
+mod tests;
 
 // Where the line that begins at a place ends: at its line feed, or with the text.
 pub fn line_end(text: &[u8], at: usize) -> usize
@@ -70,4 +75,29 @@ pub fn taken(n: u16, s: &[u8]) -> usize
     ensures value { result ≡ min n (length s.now) }
 {
     s.len().min(n as usize)
+}
+
+// What comes back, printed after the line that asked: the number, and two values beside it.
+pub fn answered(rt: &impl Print, number: u8, first: u64, second: u64) -> Result<()> {
+    print!(rt; ": {number} {first} {second}")
+}
+
+// Each line of a text in turn: printed, and answered by its letter and its numbers.
+pub fn answer_all<F: Fn(u8, &[u16; 64]) -> Result<()>>(
+    rt: &impl Print,
+    text: &[u8],
+    answer: F,
+) -> Result<()>
+    requires { F.IsAlwaysCallable answer }
+{
+    let mut at = 0;
+    while at < text.len() {
+        let end = line_end(text, at);
+        let line = &text[at..end];
+        rt.write_all(line)?;
+        answer(line.first().copied().unwrap_or(0), &numbers(line))?;
+        println!(rt)?;
+        at = end + 1;
+    }
+    Ok(())
 }

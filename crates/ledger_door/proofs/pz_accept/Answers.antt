@@ -1,7 +1,7 @@
 -- `ledger_door::pz_accept` meets its contract: what accept gives of the two images is put back, and a refusal leaves the ledger's.
 use native.Mathlib.Omega.{arith}
 use Rattle.buffer.specs.Bytes.{Bytes}
-use Rattle.ledger_door.proofs.Laws.{accept-put, accept-left, place-small}
+use Rattle.ledger_door.proofs.Laws.{accept-put, accept-refused, place-small}
 use Rattle.ledger_door.proofs.pz_accept.Goals as goal
 
 pub overflow_cast-place : goal.overflow_cast-place
@@ -18,4 +18,4 @@ returns-in-Ok c =
 pub returns-in-Err : goal.returns-in-Err
 returns-in-Err c =
     let a = c.args in
-    accept-left a.ledger.now a.frame.now (record { 0 = a.arrival }) a.table.now a.ticks c.ledger_of-l.ensures c.table_of-t.ensures c.in-Err.fault c.in-Err.ensures.value c.put_back-in-Err.ensures
+    accept-refused a.ledger.now a.frame.now (record { 0 = a.arrival }) a.table.now a.ticks c.ledger_of-l.ensures c.table_of-t.ensures c.in-Err.fault c.in-Err.ensures.value c.put_back-in-Err.ensures
