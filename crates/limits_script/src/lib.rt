@@ -2,8 +2,8 @@
 // with what a caller answers. No contract can say what is printed.
 #![tactic(auto)]
 
-ghost use Rattle.std.specs.Prelude.{◌≡◌, ◌+◌, ◌-◌, ◌≤◌, ◌%◌, min, length, take};
-ghost use Rattle.limits_script.specs.Private.{line_end, longer_of, numbers_of, bytes_of};
+ghost use Rattle.std.specs.Prelude.{◌≡◌, ◌+◌, ◌-◌, ◌≤◌, ◌%◌, min, length, take, Ok, IfOk};
+ghost use Rattle.limits_script.specs.Private.{line_end, longer_of, numbers_of, bytes_of, EachLine};
 
 use std::io::Result;
 
@@ -82,13 +82,14 @@ pub fn answered(rt: &impl Print, number: u8, first: u64, second: u64) -> Result<
     print!(rt; ": {number} {first} {second}")
 }
 
-// Each line of a text in turn: printed, and answered by its letter and its numbers.
+// Each line of a text in turn: printed, and answered by its letter and its numbers. Where it gives Ok, `answer` gave Ok for each line.
 pub fn answer_all<F: Fn(u8, &[u16; 64]) -> Result<()>>(
     rt: &impl Print,
     text: &[u8],
     answer: F,
 ) -> Result<()>
     requires { F.IsAlwaysCallable answer }
+    ensures answered { IfOk result (λ u. EachLine (λ letter v. (r : _) × (r.now ≡ v) × F.post answer letter r (Ok tt)) text.now) }
 {
     let mut at = 0;
     while at < text.len() {
